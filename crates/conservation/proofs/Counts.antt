@@ -1,0 +1,131 @@
+-- How many trades a call makes: they fit the lent list.
+use Prim.Native.Nat.{ℕ, zero, suc, _*_, _≤_}
+use native.Mathlib.Omega.{arith}
+use mathlib.Core.Path.{_≡_, refl}
+use mathlib.Core.List.{List, [], _∷_}
+use mathlib.Core.Bool.{true}
+use lib.ListN.{length, take, drop, length-append, length-drop}
+use borrow.Author.Tests.{leb-true}
+use Rattle.market.specs.Limits.{lentAtLeast, maxMembers, maxTrades, minMembers, numbersPerTrade}
+use Rattle.market.specs.Day.{Day, Rules}
+use Rattle.market.specs.Sound.{sound}
+use Rattle.market.specs.TradeList.{Trade, allNumbers, written}
+use Rattle.market.specs.Answers.{numbersOf}
+use Rattle.market.specs.Calls.{Call, cancel, closingOrder, decrease, endSession, entryOf, increase, linked, order}
+use Rattle.market.specs.Calls.{startClosing}
+use Rattle.market.specs.Questions.{ask, enoughLent, firstNo, orderQuestions, questions}
+use Rattle.market.specs.Matching.{fill}
+use Rattle.market.specs.Entry.{admitted, entered, placed}
+use Rattle.market.specs.Linked.{Group, groupResult, members, passed, stopped}
+use Rattle.market.specs.Closing.{closingTerms, pairsFrom}
+use Rattle.market.specs.Step.{answerBy, effect, result}
+use Rattle.market.proofs.Logic.{within-high}
+use Rattle.market.proofs.Questions.{all-yes, first-yes, yes, yes-rest}
+use Rattle.market.proofs.Known.{closing-phase}
+use Rattle.conservation.specs.Book.{Book}
+use Rattle.conservation.specs.SoundKept.{mostTrades}
+use Rattle.conservation.proofs.Good.{Good}
+use Rattle.conservation.proofs.Enter.{enter-ok}
+use Rattle.conservation.proofs.Linked.{GroupOk, members-ok}
+use Rattle.conservation.proofs.Closing.{closing-paired}
+use Rattle.conservation.proofs.Steps.{order-admitted}
+
+-- at most so many, at most 136, and no more than the list has places for
+pub record Few (bound : ℕ) (ts : List Trade) (l : List ℕ) : Type 0 where
+  pub most : length ts ≤ bound
+  pub trades : length ts ≤ maxTrades
+  pub numbers : numbersPerTrade * length ts ≤ length l
+
+no-trades : (most : ℕ) (l : List ℕ) → Few most [] l
+no-trades most l = record { most = omega arith; trades = omega arith; numbers = omega arith }
+
+few : (most : ℕ) (ts : List Trade) (l : List ℕ) → enoughLent (length l) ≡ true → length ts ≤ most → most ≤ maxTrades
+    → Few most ts l
+few most ts l e h m =
+    let k = leb-true lentAtLeast (length l) e in
+    record { most = h; trades = omega arith; numbers = omega arith }
+
+take-le : {A : Type 0} (n : ℕ) (l : List A) → length (take n l) ≤ n
+take-le zero l = omega arith
+take-le (suc n) [] = omega arith
+take-le (suc n) (x ∷ l) = let r = take-le n l in omega arith
+
+effect-few : {U : Type 0} {r : Rules} (b : Book) (d : Day) (c : Call) (l : List ℕ) → Good U r b d
+    → firstNo (questions d (length l) c) ≡ 0 → Few (mostTrades d c) ((effect d c) .trades) l
+unfolding questions effect entered placed
+effect-few b d (increase x p column a) l g e = no-trades 0 l
+effect-few b d (decrease x p column a) l g e = no-trades 0 l
+effect-few b d (order p m k) l g e =
+    let ok = enter-ok b d p m k g (order-admitted d l p m k e) in
+    let rest = yes-rest (sound d) 1 (ask 2 (enoughLent (length l)) ∷ orderQuestions d p m k) (omega arith) e in
+    few (length (d .waiting)) ((fill (admitted d (entryOf d p m)) (entryOf d p m)) .trades) l
+    (first-yes (enoughLent (length l)) 2 (orderQuestions d p m k) (omega arith) rest)
+    (ok .few) (omega (arith, g .room))
+effect-few b d (cancel p code) l g e = no-trades 0 l
+effect-few {U} {r} b d (linked p n ms) l g e =
+    let qs = questions d (length l) (linked p n ms) in
+    let y = all-yes qs tt e in
+    go (within-high minMembers maxMembers n (yes 3 qs y)) (yes 2 qs y)
+    (members 1 d p (take n ms)) (members-ok (take n ms) 1 d p b g)
+  where
+    go : n ≤ maxMembers → enoughLent (length l) ≡ true → (x : Group) → GroupOk U r b d p (take n ms) x
+        → Few (mostTrades d (linked p n ms)) ((groupResult d p x) .trades) l
+    go hn lent (stopped m y) h = no-trades _ l
+    go hn lent (passed d′ f ts) h = few _ ts l lent (omega (arith, h .3, take-le n ms)) (omega (arith, g .room))
+effect-few b d startClosing l g e = no-trades 0 l
+effect-few b d (closingOrder p side s lots) l g e = no-trades 0 l
+effect-few b d endSession l g e =
+    let qs = questions d (length l) endSession in
+    let y = all-yes qs tt e in
+    let ok = closing-paired b d g (closing-phase (d .phase) (yes 6 qs y)) in
+    few (length (d .waiting)) ((pairsFrom closingTerms (d .rules .securities) 0 d) .trades) l (yes 2 qs y)
+    (omega (arith, ok .count)) (omega (arith, g .room))
+
+pub result-few : {U : Type 0} {r : Rules} (b : Book) (d : Day) (c : Call) (l : List ℕ) → Good U r b d
+    → Few (mostTrades d c) ((result d (length l) c) .trades) l
+unfolding result
+result-few b d c l g = go (firstNo (questions d (length l) c)) refl
+  where
+    go : (n : ℕ) → firstNo (questions d (length l) c) ≡ n
+        → Few (mostTrades d c) ((answerBy n d (effect d c)) .trades) l
+    go zero e = effect-few b d c l g e
+    go (suc n) e = no-trades _ l
+
+-- the answer counts the trades
+effect-counts : (d : Day) (c : Call) → (numbersOf ((effect d c) .answer)) .trades ≡ length ((effect d c) .trades)
+unfolding effect entered placed
+effect-counts d (increase x p column a) = refl
+effect-counts d (decrease x p column a) = refl
+effect-counts d (order p m k) = refl
+effect-counts d (cancel p code) = refl
+effect-counts d (linked p n ms) = go (members 1 d p (take n ms))
+  where
+    go : (x : Group) → (numbersOf ((groupResult d p x) .answer)) .trades ≡ length ((groupResult d p x) .trades)
+    go (stopped m y) = refl
+    go (passed d′ f ts) = refl
+effect-counts d startClosing = refl
+effect-counts d (closingOrder p side s lots) = refl
+effect-counts d endSession = refl
+
+pub result-counts : (d : Day) (lent : ℕ) (c : Call)
+    → (numbersOf ((result d lent c) .answer)) .trades ≡ length ((result d lent c) .trades)
+unfolding result
+result-counts d lent c = go (firstNo (questions d lent c))
+  where
+    go : (n : ℕ)
+        → (numbersOf ((answerBy n d (effect d c)) .answer)) .trades ≡ length ((answerBy n d (effect d c)) .trades)
+    go zero = effect-counts d c
+    go (suc n) = refl
+
+-- a list keeps its length when trades that fit are written to it
+numbers-length : (ts : List Trade) → length (allNumbers ts) ≡ numbersPerTrade * length ts
+numbers-length [] = refl
+numbers-length (t ∷ ts) = let r = numbers-length ts in omega arith
+
+pub written-length : (ts : List Trade) (l : List ℕ) → numbersPerTrade * length ts ≤ length l
+    → length (written ts l) ≡ length l
+written-length ts l h =
+    let a = length-append (allNumbers ts) (drop (numbersPerTrade * length ts) l) in
+    let b = numbers-length ts in
+    let c = length-drop (numbersPerTrade * length ts) l in
+    omega (arith, a, b, c)

@@ -1,0 +1,17 @@
+pub mod Listed
+pub mod Held
+pub mod Good
+pub mod Blocks
+pub mod Leaves
+pub mod Moves
+pub mod Trade
+pub mod Match
+pub mod Fill
+pub mod Enter
+pub mod Pairs
+pub mod Linked
+pub mod Closing
+pub mod Sound
+pub mod Steps
+pub mod Counts
+pub mod Demand

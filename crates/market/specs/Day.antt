@@ -1,0 +1,201 @@
+-- The state as far as it is read.
+use Prim.Native.Nat.{ℕ, zero, suc, _+_, _*_}
+use mathlib.Core.List.{List, [], _∷_}
+use mathlib.Core.Path.{_≡_}
+use lib.ListN.{getD, length}
+use Rattle.market.specs.declared.Kind.the-variants as kind
+use Rattle.market.specs.declared.Order.{Order}
+use Rattle.market.specs.declared.Phase.{Phase}
+use Rattle.market.specs.declared.Position.{Position}
+use Rattle.market.specs.declared.Security.{Security}
+use Rattle.market.specs.declared.Side.the-variants.{Buy}
+use Rattle.market.specs.declared.State.{State}
+use Rattle.market.specs.declared.Turnover.{Turnover}
+use Rattle.market.specs.Limits.{columns, maxSecurities, moneyLimit, piecesLimit, places}
+
+-- what the opening fixes: counts and security table
+pub record Rules : Type 0 where
+  pub participants : ℕ
+  pub currencies : ℕ
+  pub securities : ℕ
+  pub table : List Security
+
+-- positions at participant × 16 + currency or security; waiting orders by rising code
+pub record Day : Type 0 where
+  pub rules : Rules
+  pub money : List Position
+  pub pieces : List Position
+  pub waiting : List Order
+  pub codes : ℕ
+  pub phase : Phase
+  pub turnover : List Turnover
+
+-- what stands past a list's end: zeros, and of an enum the first variant
+abbrev pub noSecurity : Security
+noSecurity = record { currency = 0; lot = 0; step = 0 }
+
+abbrev pub noPosition : Position
+noPosition = record { free = 0; blocked = 0 }
+
+abbrev pub noTurnover : Turnover
+noTurnover = record { pieces = 0; money = 0 }
+
+abbrev pub noOrder : Order
+noOrder = record { code = 0; participant = 0; side = Buy; security = 0; lots = 0; kind = kind.Kept 0 }
+
+-- "Places past the counts aren't read": the first n orders, blank past the array's end, so that a count above 128
+-- shows as a list that is too long
+abbrev pub firstOrders : ℕ → List Order → List Order
+firstOrders zero w = []
+firstOrders (suc n) [] = noOrder ∷ firstOrders n []
+firstOrders (suc n) (o ∷ w) = o ∷ firstOrders n w
+
+-- the day that a State holds
+abbrev pub view : State → Day
+view s = record {
+  rules = record {
+    participants = s .participants;
+    currencies = s .currencies;
+    securities = s .securities;
+    table = s .table;
+  };
+  money = s .money;
+  pieces = s .pieces;
+  waiting = firstOrders (s .count) (s .orders);
+  codes = s .codes;
+  phase = s .phase;
+  turnover = s .turnover;
+}
+
+-- what a position is held in
+pub data Asset : Type 0 where
+  Money Pieces : Asset
+
+-- the first for money, the second for pieces
+abbrev pub ifMoney : {A : Type 0} → Asset → A → A → A
+ifMoney Money a b = a
+ifMoney Pieces a b = b
+
+-- the positions in money, in pieces
+abbrev pub positions : Asset → Day → List Position
+positions x d = ifMoney x (d .money) (d .pieces)
+
+-- money stands in the columns of the currencies, pieces in those of the securities
+abbrev pub columnsOf : Asset → Rules → ℕ
+columnsOf x r = ifMoney x (r .currencies) (r .securities)
+
+-- "free plus blocked money over all participants is at most 10^15; a security's pieces, at most 10^12"
+abbrev pub totalLimit : Asset → ℕ
+totalLimit x = ifMoney x moneyLimit piecesLimit
+
+-- the place of a participant's position in a currency or a security
+abbrev pub place : ℕ → ℕ → ℕ
+place p column = p * columns + column
+
+-- the position at a place
+abbrev pub position : List Position → ℕ → Position
+position l j = getD l j noPosition
+
+-- the line of a security
+abbrev pub line : Rules → ℕ → Security
+line r s = getD (r .table) s noSecurity
+
+-- a security's currency
+abbrev pub currencyOf : Rules → ℕ → ℕ
+currencyOf r s = (line r s) .currency
+
+-- Q and T of a security
+abbrev pub turnoverAt : List Turnover → ℕ → Turnover
+turnoverAt t s = getD t s noTurnover
+
+-- the waiting order at a place of the list
+abbrev pub orderAt : List Order → ℕ → Order
+orderAt w i = getD w i noOrder
+
+-- the order with other lots
+abbrev pub withLots : Order → ℕ → Order
+withLots o n = record {
+  code = o .code;
+  participant = o .participant;
+  side = o .side;
+  security = o .security;
+  lots = n;
+  kind = o .kind;
+}
+
+-- the day with one part replaced
+abbrev pub withMoney : Day → List Position → Day
+withMoney d m = record {
+  rules = d .rules;
+  money = m;
+  pieces = d .pieces;
+  waiting = d .waiting;
+  codes = d .codes;
+  phase = d .phase;
+  turnover = d .turnover;
+}
+
+abbrev pub withPieces : Day → List Position → Day
+withPieces d m = record {
+  rules = d .rules;
+  money = d .money;
+  pieces = m;
+  waiting = d .waiting;
+  codes = d .codes;
+  phase = d .phase;
+  turnover = d .turnover;
+}
+
+abbrev pub withPositions : Asset → Day → List Position → Day
+withPositions x d m = withPieces (withMoney d (ifMoney x m (d .money))) (ifMoney x (d .pieces) m)
+
+abbrev pub withWaiting : Day → List Order → Day
+withWaiting d w = record {
+  rules = d .rules;
+  money = d .money;
+  pieces = d .pieces;
+  waiting = w;
+  codes = d .codes;
+  phase = d .phase;
+  turnover = d .turnover;
+}
+
+abbrev pub withCodes : Day → ℕ → Day
+withCodes d n = record {
+  rules = d .rules;
+  money = d .money;
+  pieces = d .pieces;
+  waiting = d .waiting;
+  codes = n;
+  phase = d .phase;
+  turnover = d .turnover;
+}
+
+abbrev pub withPhase : Day → Phase → Day
+withPhase d x = record {
+  rules = d .rules;
+  money = d .money;
+  pieces = d .pieces;
+  waiting = d .waiting;
+  codes = d .codes;
+  phase = x;
+  turnover = d .turnover;
+}
+
+abbrev pub withTurnover : Day → List Turnover → Day
+withTurnover d t = record {
+  rules = d .rules;
+  money = d .money;
+  pieces = d .pieces;
+  waiting = d .waiting;
+  codes = d .codes;
+  phase = d .phase;
+  turnover = t;
+}
+
+-- the arrays of a State have these lengths
+pub record Sized (d : Day) : Type 0 where
+  pub table : length (d .rules .table) ≡ maxSecurities
+  pub money : length (d .money) ≡ places
+  pub pieces : length (d .pieces) ≡ places
+  pub turnover : length (d .turnover) ≡ maxSecurities

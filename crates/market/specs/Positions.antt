@@ -1,0 +1,91 @@
+-- How positions move.
+use Prim.Native.Nat.{ℕ, _+_, _-_}
+use mathlib.Core.List.{List}
+use lib.ListN.{set}
+use Rattle.market.specs.declared.Order.{Order}
+use Rattle.market.specs.declared.Position.{Position}
+use Rattle.market.specs.declared.Turnover.{Turnover}
+use Rattle.market.specs.Tests.{sumBelow}
+use Rattle.market.specs.Day.{Day, Rules, currencyOf, place, position, positions, turnoverAt, withLots, withMoney}
+use Rattle.market.specs.Day.{withPieces, withPositions}
+use Rattle.market.specs.Needs.{assetOf, need, piecesOf, placeFor, sumFor}
+
+-- the position at place j becomes f of it
+unfoldable pub change : List Position → ℕ → (Position → Position) → List Position
+change l j f = set l j (f (position l j))
+
+-- "Increase and decrease move free money or free pieces of one participant"
+abbrev pub receive : ℕ → Position → Position
+receive a p = record { free = p .free + a; blocked = p .blocked }
+
+abbrev pub draw : ℕ → Position → Position
+draw a p = record { free = p .free - a; blocked = p .blocked }
+
+-- "Entering an order blocks, from free"
+abbrev pub block : ℕ → Position → Position
+block a p = record { free = p .free - a; blocked = p .blocked + a }
+
+-- and back to free
+abbrev pub release : ℕ → Position → Position
+release a p = record { free = p .free + a; blocked = p .blocked - a }
+
+-- blocked falls by fall, of which cost is paid; "the difference returns to the buyer's free money"
+abbrev pub pay : ℕ → ℕ → Position → Position
+pay fall cost p = record { free = p .free + (fall - cost); blocked = p .blocked - fall }
+
+-- f of an order's need, on the position where it blocks
+abbrev pub onNeed : (ℕ → Position → Position) → Day → Order → Day
+onNeed f d o =
+    withPositions (assetOf (o .side)) d
+    (change (positions (assetOf (o .side)) d) (placeFor (d .rules) o) (f (need (d .rules) (d .turnover) o)))
+
+-- what an order needs is blocked
+unfoldable pub blockFor : Day → Order → Day
+blockFor d o = onNeed block d o
+
+-- what an order needs is freed
+unfoldable pub releaseFor : Day → Order → Day
+releaseFor d o = onNeed release d o
+
+-- what is free where an order blocks
+abbrev pub freeFor : Day → Order → ℕ
+freeFor d o = (position (positions (assetOf (o .side)) d) (placeFor (d .rules) o)) .free
+
+-- by how much an order's need falls when n lots come off it: for a buy "his own price × n × lot size"
+abbrev pub fall : Rules → List Turnover → Order → ℕ → ℕ
+fall r t o n = need r t o - need r t (withLots o (o .lots - n))
+
+-- "the buyer's blocked money falls by his own price × n × lot size; the sum p × n × lot size goes to the seller's free
+-- money; the difference returns to the buyer's free money"
+abbrev pub moneySettled : Day → Order → Order → ℕ → ℕ → List Position
+moneySettled d b s n sum =
+    change (change (d .money) (placeFor (d .rules) b) (pay (fall (d .rules) (d .turnover) b n) sum))
+    (place (s .participant) (currencyOf (d .rules) (b .security))) (receive sum)
+
+-- "The seller's blocked pieces become the buyer's free pieces"
+abbrev pub piecesSettled : Day → Order → Order → ℕ → ℕ → List Position
+piecesSettled d b s n pieces =
+    change (change (d .pieces) (placeFor (d .rules) s) (pay (fall (d .rules) (d .turnover) s n) pieces))
+    (place (b .participant) (b .security)) (receive pieces)
+
+-- "A trade of n lots at price p" between a buy b and a sell s
+unfoldable pub settle : Day → Order → Order → ℕ → ℕ → Day
+settle d b s p n =
+    withPieces (withMoney d (moneySettled d b s n (sumFor (d .rules) (b .security) p n)))
+    (piecesSettled d b s n (piecesOf (d .rules) (b .security) n))
+
+-- Q and T with q pieces and t money more
+abbrev pub counting : ℕ → ℕ → Turnover → Turnover
+counting q t x = record { pieces = x .pieces + q; money = x .money + t }
+
+-- "Each trade adds to Q and T": n lots of security s at price p
+unfoldable pub counted : Rules → List Turnover → ℕ → ℕ → ℕ → List Turnover
+counted r t s p n = set t s (counting (piecesOf r s n) (sumFor r s p n) (turnoverAt t s))
+
+-- free plus blocked
+abbrev pub total : Position → ℕ
+total p = p .free + p .blocked
+
+-- a currency's or a security's total over all participants
+abbrev pub totalAt : Rules → List Position → ℕ → ℕ
+totalAt r l column = sumBelow (r .participants) (λ p. total (position l (place p column)))

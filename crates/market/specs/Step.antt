@@ -1,0 +1,59 @@
+-- What each call does, and the step that joins it with the questions.
+use Prim.Native.Nat.{ℕ, zero, suc}
+use mathlib.Core.List.{List, []}
+use lib.ListN.{length, take}
+use Rattle.market.specs.declared.Answer.{Answer}
+use Rattle.market.specs.declared.Answer.the-variants.{Done}
+use Rattle.market.specs.declared.Phase.the-variants.{Closed, Closing}
+use Rattle.market.specs.declared.Position.{Position}
+use Rattle.market.specs.Day.{Asset, Day, place, positions, withPositions}
+use Rattle.market.specs.Positions.{change, draw, receive}
+use Rattle.market.specs.Waiting.{allLeave, leave, placeIn, placeOf}
+use Rattle.market.specs.TradeList.{written}
+use Rattle.market.specs.Answers.{Result, refused, zeros}
+use Rattle.market.specs.Calls.{Call, cancel, closingOf, closingOrder, decrease, endSession, entryOf, increase}
+use Rattle.market.specs.Calls.{linked, order, startClosing}
+use Rattle.market.specs.Questions.{firstNo, questions}
+use Rattle.market.specs.Entry.{entered, placed}
+use Rattle.market.specs.Linked.{groupResult, members}
+use Rattle.market.specs.Closing.{closingTerms, endResult, pairsFrom}
+
+-- f on a participant's position
+abbrev pub moved : Asset → Day → ℕ → ℕ → (Position → Position) → Day
+moved x d p column f = withPositions x d (change (positions x d) (place p column) f)
+
+-- what each call does where its questions are all answered "yes"
+unfoldable pub effect : Day → Call → Result
+effect d (increase x p column a) = zeros (moved x d p column (receive a))
+effect d (decrease x p column a) = zeros (moved x d p column (draw a))
+effect d (order p m k) = entered d (entryOf d p m) k
+effect d (cancel p code) = record {
+  answer = Done code 0 0 0;
+  day = leave d (placeIn (placeOf p code (d .waiting)));
+  trades = [];
+}
+effect d (linked p count ms) = groupResult d p (members 1 d p (take count ms))
+effect d startClosing = zeros (allLeave d Closing)
+effect d (closingOrder p side s lots) = placed d (closingOf d p side s lots)
+effect d endSession = endResult Closed (pairsFrom closingTerms (d .rules .securities) 0 d)
+
+-- the result where the first "no" is 0, else the refusal with that number; "Place is 0 except where named"
+abbrev pub answerBy : ℕ → Day → Result → Result
+answerBy zero d r = r
+answerBy (suc n) d r = refused d (suc n) 0
+
+-- the questions, then the effect
+unfoldable pub result : Day → ℕ → Call → Result
+result d lent c = answerBy (firstNo (questions d lent c)) d (effect d c)
+
+-- answer, day and lent list after a call
+pub record Reply : Type 0 where
+  pub answer : Answer
+  pub day : Day
+  pub list : List ℕ
+
+-- the definition of a call on a day with a lent list
+unfoldable pub step : Day → List ℕ → Call → Reply
+step d l c =
+    let r = result d (length l) c in
+    record { answer = r .answer; day = r .day; list = written (r .trades) l }
