@@ -15,7 +15,7 @@ use Rattle.market.specs.declared.TimeInForce.the-variants.{FillOrKill, Immediat
 use Rattle.market.specs.declared.Turnover.{Turnover}
 use Rattle.market.specs.Limits.{maxLots, maxWaiting}
 use Rattle.market.specs.Tests.{_=?_, sumOf}
-use Rattle.market.specs.Day.{Asset, Day, Rules, turnoverAt, withLots, withWaiting}
+use Rattle.market.specs.Day.{Asset, Day, Rules, line, turnoverAt, withLots, withWaiting}
 use Rattle.market.specs.Codes.{codesOf, given}
 use Rattle.market.specs.Needs.{needAt, only, piecesOf}
 use Rattle.market.specs.Positions.{blockFor, releaseFor}
@@ -162,7 +162,7 @@ start-ok b d p m k g e =
       room = has-room k d o (yes 12 qs y) (g .room);
       turnoverLength = g .turnoverLength;
       turnovers = λ s h.
-          subst (λ (c : ℕ). TurnoverOk c (only (m .security) s (piecesOf (d .rules) (m .security) (m .lots)))
+          subst (λ (c : ℕ). TurnoverOk c (only (m .security) s (piecesOf (line (d .rules) (m .security)) (m .lots)))
           (turnoverAt (d .turnover) s))
           (sym (given-next d p ok (g .limit) hp))
           (turnover-room (d .rules) (given d) (m .security) (m .lots) s (turnoverAt (d .turnover) s) ok hs top (g .turnovers s h));

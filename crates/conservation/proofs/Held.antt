@@ -12,10 +12,10 @@ use Rattle.market.specs.declared.Position.{Position}
 use Rattle.market.specs.Limits.{columns, maxParticipants, places}
 use Rattle.market.specs.Day.{Rules, noPosition, place, position}
 use Rattle.market.specs.Needs.{only}
-use Rattle.market.specs.Positions.{change, receive, total}
+use Rattle.market.specs.Positions.{change, receive, total, totalAt}
 use Rattle.market.proofs.Amounts.{change-law, length-change, only-zero, still}
 use Rattle.conservation.specs.Book.{Balance, add, balance, noBalance, sub}
-use Rattle.market.proofs.Totals.{total-change, total-transfer, totalIn}
+use Rattle.market.proofs.Totals.{total-change, total-transfer}
 
 -- m and l agree in the first n columns, blocked amounts are the needs, and totals are within the limit
 pub record Held (r : Rules) (n limit : ℕ) (m : List Position) (l : List Balance) (need : ℕ → ℕ) : Type 0 where
@@ -26,7 +26,7 @@ pub record Held (r : Rules) (n limit : ℕ) (m : List Position) (l : List Balanc
   pub agree : (p c : ℕ) → p < r .participants → c < n
       → total (position m (place p c)) + (balance l (place p c)) .out ≡ (balance l (place p c)) .into
   pub blocked : (p c : ℕ) → p < r .participants → c < n → (position m (place p c)) .blocked ≡ need (place p c)
-  pub topped : (c : ℕ) → c < n → totalIn (r .participants) c m ≤ limit
+  pub topped : (c : ℕ) → c < n → totalAt (r .participants) m c ≤ limit
 
 -- one position and one balance set alike
 agree-set : (m : List Position) (l : List Balance) (i j : ℕ) (f : Position → Position) (x : Balance)
@@ -93,7 +93,7 @@ module _ {r : Rules} {n limit : ℕ} {m : List Position} {l : List Balance} {nee
   pub held-move : (q e : ℕ) (f : Position → Position) (x : Balance) → q < r .participants → e < n
       → (f (position m (place q e))) .blocked ≡ (position m (place q e)) .blocked
       → total (f (position m (place q e))) + x .out ≡ x .into
-      → ((c : ℕ) → c < n → totalIn (r .participants) c (change m (place q e) f) ≤ limit)
+      → ((c : ℕ) → c < n → totalAt (r .participants) (change m (place q e) f) c ≤ limit)
       → Held r n limit (change m (place q e) f) (set l (place q e) x) need
   held-move q e f x hq he same new top =
       let i : place q e < length m = omega (arith, held-place q e hq he, h .positions) in

@@ -15,7 +15,7 @@ use Rattle.market.specs.declared.TimeInForce.the-variants.{FillOrKill, Immediat
 use Rattle.market.specs.declared.Turnover.{Turnover}
 use Rattle.market.specs.Limits.{maxLots, maxPrice, maxSecurities, maxWaiting}
 use Rattle.market.specs.Tests.{sumOf}
-use Rattle.market.specs.Day.{Asset, Day, Rules, noOrder, orderAt, turnoverAt, withLots}
+use Rattle.market.specs.Day.{Asset, Day, Rules, line, noOrder, orderAt, turnoverAt, withLots}
 use Rattle.market.specs.Codes.{codesOf, given}
 use Rattle.market.specs.Needs.{limitOf, needAt, only, piecesOf}
 use Rattle.market.specs.Positions.{counted, settle}
@@ -60,7 +60,7 @@ pub record Matching (U : Type 0) (k : TimeInForce) (r : Rules) (b : Book) (d : D
   pub limit : CodesOk d
   pub room : length (d .waiting) + length (enters k (shown e)) ≤ maxWaiting
   pub turnoverLength : length (d .turnover) ≡ maxSecurities
-  pub turnovers : Turnovers d (λ s. only (e .security) s (piecesOf (d .rules) (e .security) (e .lots)))
+  pub turnovers : Turnovers d (λ s. only (e .security) s (piecesOf (line (d .rules) (e .security)) (e .lots)))
 
 pub less-ok : (r : Rules) (n : ℕ) (o : Order) → OrderOk r o → n < o .lots → OrderOk r (withLots o (o .lots - n))
 less-ok r n o ok h = record {
@@ -164,7 +164,7 @@ module _ {U : Type 0} {r : Rules} (k : TimeInForce) (b : Book) (d : Day) (e : Or
 
   abbrev Bounded : ℕ → Type 0
   Bounded y = (s : ℕ) → s < d .rules .securities
-      → TurnoverOk (given d) (only (e .security) s (piecesOf (d .rules) (e .security) (rest .lots)))
+      → TurnoverOk (given d) (only (e .security) s (piecesOf (line (d .rules) (e .security)) (rest .lots)))
       (turnoverAt (counted (d .rules) (d .turnover) y p n) s)
 
   own : Bounded (e .security)

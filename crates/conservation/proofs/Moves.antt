@@ -67,7 +67,7 @@ module _ {U : Type 0} {r : Rules} (x : Asset) (b : Book) (d : Day) (p column a :
   increase-good e =
       let h = g .agree .held x in
       let m = positions x d in
-      let top = leb-true (totalAt (d .rules) m column + a) (totalLimit x) e in
+      let top = leb-true (totalAt (d .rules .participants) m column + a) (totalLimit x) e in
       moved-good x b d g _ _
       (held-move h p column (receive a) _ hp hc refl (omega (arith, h .agree p column hp hc))
       (λ k hk.

@@ -45,7 +45,7 @@ module _ {U : Type 0} {r : Rules} (b : Book) (d : Day) (g : Good U r b d) where
   unfolding totalsSound
   totals-sound x =
       below-intro (columnsOf x (d .rules)) _
-      (λ c hc. le-leb (totalAt (d .rules) (positions x d) c) (totalLimit x) ((g .agree .held x) .topped c hc))
+      (λ c hc. le-leb (totalAt (d .rules .participants) (positions x d) c) (totalLimit x) ((g .agree .held x) .topped c hc))
 
   pub good-sound : sound d ≡ true
   unfolding sound
@@ -90,7 +90,7 @@ totals-length (p ∷ l) = ap suc (totals-length l)
 held-own : (r : Rules) (n limit : ℕ) (m : List Position) (needs : ℕ → ℕ) → RulesOk r → n ≤ columns
     → length m ≡ places
     → allBelow (r .participants) (λ p. allBelow n (λ c. (position m (place p c)) .blocked =? needs (place p c))) ≡ true
-    → allBelow n (λ c. totalAt r m c ≤? limit) ≡ true
+    → allBelow n (λ c. totalAt (r .participants) m c ≤? limit) ≡ true
     → Held r n limit m (totals m) needs
 held-own r n limit m needs ok wide size blocked top = record {
   wide = wide;
@@ -103,7 +103,7 @@ held-own r n limit m needs ok wide size blocked top = record {
       (below-all n (λ c. (position m (place p c)) .blocked =? needs (place p c))
       (below-all (r .participants)
       (λ p. allBelow n (λ c. (position m (place p c)) .blocked =? needs (place p c))) blocked p hp) c hc);
-  topped = λ c hc. leb-true (totalAt r m c) limit (below-all n (λ c. totalAt r m c ≤? limit) top c hc);
+  topped = λ c hc. leb-true (totalAt (r .participants) m c) limit (below-all n (λ c. totalAt (r .participants) m c ≤? limit) top c hc);
 }
 
 order-facts : (d : Day) (o : Order) → orderSound d o ≡ true → OrderOk (d .rules) o × KindOk d o

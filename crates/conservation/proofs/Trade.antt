@@ -7,7 +7,7 @@ use Rattle.market.specs.declared.Order.{Order}
 use Rattle.market.specs.declared.Side.the-variants.{Buy, Sell}
 use Rattle.market.specs.declared.Turnover.{Turnover}
 use Rattle.market.specs.Tests.{sumOf}
-use Rattle.market.specs.Day.{Asset, Day, Money, Pieces, Rules, columnsOf, currencyOf, place, position, positions}
+use Rattle.market.specs.Day.{Asset, Day, Money, Pieces, Rules, columnsOf, currencyOf, line, place, position, positions}
 use Rattle.market.specs.Day.{totalLimit, withTurnover, withWaiting}
 use Rattle.market.specs.Needs.{limitOf, needAt, ofAsset, only, piecesOf, placeFor, sumFor}
 use Rattle.market.specs.Positions.{fall, pay, settle}
@@ -44,7 +44,7 @@ module _ {r : Rules} (x x′ w′ : List Order) (b : Book) (d : Day) (buy sell :
       let s = buy .security in
       let c = currencyOf (d .rules) s in
       let hc = agree .rulesOk .currency s (buyOk .security) in
-      let sum = sumFor (d .rules) s p n in
+      let sum = sumFor (line (d .rules) s) p n in
       let falls = fall (d .rules) (d .turnover) buy n in
       let at = place (buy .participant) c in
       let there : placeFor (d .rules) buy ≡ at = rw buys in
@@ -67,7 +67,7 @@ module _ {r : Rules} (x x′ w′ : List Order) (b : Book) (d : Day) (buy sell :
   trade-held Pieces =
       let s = buy .security in
       let hs = buyOk .security in
-      let q = piecesOf (d .rules) s n in
+      let q = piecesOf (line (d .rules) s) n in
       let falls = fall (d .rules) (d .turnover) sell n in
       let at = place (sell .participant) s in
       let there : placeFor (d .rules) sell ≡ at = rw (sells, one) in
@@ -76,7 +76,7 @@ module _ {r : Rules} (x x′ w′ : List Order) (b : Book) (d : Day) (buy sell :
       let fs : fallAt Pieces d sell n j ≡ only at j falls = rw (sells, one) in
       omega (arith, needs Pieces j) in
       let sold : falls ≡ q = fall-sells (d .rules) (d .turnover) sell n sells sellLots
-      ∙ ap (λ (k : ℕ). piecesOf (d .rules) k n) one in
+      ∙ ap (λ (k : ℕ). piecesOf (line (d .rules) k) n) one in
       let has : falls ≤ (position (d .pieces) at) .blocked =
       omega (
         arith,

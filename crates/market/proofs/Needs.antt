@@ -8,6 +8,7 @@ use mathlib.Core.Bool.{Bool, true, false}
 use Rattle.market.specs.declared.Kind.{Kind}
 use Rattle.market.specs.declared.Kind.the-variants as kind
 use Rattle.market.specs.declared.Order.{Order}
+use Rattle.market.specs.declared.Security.{Security}
 use Rattle.market.specs.declared.Side.{Side}
 use Rattle.market.specs.declared.Side.the-variants.{Buy, Sell}
 use Rattle.market.specs.declared.Turnover.{Turnover}
@@ -20,57 +21,53 @@ use Rattle.market.proofs.Logic.{never}
 use Rattle.market.proofs.Amounts.{only-add, only-same, only-zero}
 
 -- pieces and sums
-pub pieces-split : (r : Rules) (s l n : ℕ) → n ≤ l → piecesOf r s (l - n) + piecesOf r s n ≡ piecesOf r s l
+pub pieces-split : (k : Security) (l n : ℕ) → n ≤ l → piecesOf k (l - n) + piecesOf k n ≡ piecesOf k l
 unfolding piecesOf
-pieces-split r s l n h =
-    let k = (line r s) .lot in
+pieces-split k l n h =
     let e : (l - n) + n ≡ l = omega arith in
-    let a : ((l - n) + n) * k ≡ (l - n) * k + n * k = omega arith in
-    sym a ∙ ap (λ (x : ℕ). x * k) e
+    let a : ((l - n) + n) * k .lot ≡ (l - n) * k .lot + n * k .lot = omega arith in
+    sym a ∙ ap (λ (x : ℕ). x * k .lot) e
 
 -- a sum lies between its pieces and 10^6 times them
-pub sum-bounds : (r : Rules) (s p n : ℕ) → 1 ≤ p → p ≤ maxPrice
-    → (piecesOf r s n ≤ sumFor r s p n) × (sumFor r s p n ≤ maxPrice * piecesOf r s n)
+pub sum-bounds : (k : Security) (p n : ℕ) → 1 ≤ p → p ≤ maxPrice
+    → (piecesOf k n ≤ sumFor k p n) × (sumFor k p n ≤ maxPrice * piecesOf k n)
 unfolding sumFor
-sum-bounds r s p n lo hi =
-    (omega (arith, mul-le-mul-right (piecesOf r s n) lo), omega (arith, mul-le-mul-right (piecesOf r s n) hi))
+sum-bounds k p n lo hi =
+    (omega (arith, mul-le-mul-right (piecesOf k n) lo), omega (arith, mul-le-mul-right (piecesOf k n) hi))
 
 -- n lots at price p and the others at the limit cost at most all of them at the limit
-sum-covers : (r : Rules) (s p limit l n : ℕ) → p ≤ limit → n ≤ l
-    → sumFor r s p n + sumFor r s limit (l - n) ≤ sumFor r s limit l
+sum-covers : (k : Security) (p limit l n : ℕ) → p ≤ limit → n ≤ l
+    → sumFor k p n + sumFor k limit (l - n) ≤ sumFor k limit l
 unfolding sumFor
-sum-covers r s p limit l n hp hn =
-    let a = mul-le-mul-right (piecesOf r s n) hp in
-    let e = ap (λ (x : ℕ). limit * x) (pieces-split r s l n hn) in
-    let b : limit * (piecesOf r s (l - n) + piecesOf r s n)
-    ≡ limit * piecesOf r s (l - n) + limit * piecesOf r s n = omega arith in
+sum-covers k p limit l n hp hn =
+    let a = mul-le-mul-right (piecesOf k n) hp in
+    let e = ap (λ (x : ℕ). limit * x) (pieces-split k l n hn) in
+    let b : limit * (piecesOf k (l - n) + piecesOf k n) ≡ limit * piecesOf k (l - n) + limit * piecesOf k n =
+    omega arith in
     omega arith
 
 -- an order of no lots needs nothing, and one of fewer lots needs no more
-blocks-zero : (side : Side) (r : Rules) (s p : ℕ) → blocks side r s p 0 ≡ 0
+blocks-zero : (side : Side) (k : Security) (p : ℕ) → blocks side k p 0 ≡ 0
 unfolding blocks sumFor piecesOf
-blocks-zero Buy r s p = omega arith
-blocks-zero Sell r s p = omega arith
+blocks-zero Buy k p = omega arith
+blocks-zero Sell k p = omega arith
 
-blocks-less : (side : Side) (r : Rules) (s p l n : ℕ) → n ≤ l → blocks side r s p (l - n) ≤ blocks side r s p l
+blocks-less : (side : Side) (k : Security) (p l n : ℕ) → n ≤ l → blocks side k p (l - n) ≤ blocks side k p l
 unfolding blocks
-blocks-less Buy r s p l n h = omega (arith, sum-covers r s 0 p l n (omega arith) h)
-blocks-less Sell r s p l n h = omega (arith, pieces-split r s l n h)
+blocks-less Buy k p l n h = omega (arith, sum-covers k 0 p l n (omega arith) h)
+blocks-less Sell k p l n h = omega (arith, pieces-split k l n h)
 
 -- what leaves the buyer's blocked money pays the trade, and what leaves the seller's blocked pieces is what he sold
 pub fall-pays : (r : Rules) (t : List Turnover) (b : Order) (p n : ℕ) → b .side ≡ Buy → p ≤ limitOf t b → n ≤ b .lots
-    → sumFor r (b .security) p n ≤ fall r t b n
+    → sumFor (line r (b .security)) p n ≤ fall r t b n
 unfolding blocks
 fall-pays r t b p n e hp hn =
-    rw e (omega (arith, sum-covers r (b .security) p (limitOf t b) (b .lots) n hp hn))
+    rw e (omega (arith, sum-covers (line r (b .security)) p (limitOf t b) (b .lots) n hp hn))
 
 pub fall-sells : (r : Rules) (t : List Turnover) (s : Order) (n : ℕ) → s .side ≡ Sell → n ≤ s .lots
-    → fall r t s n ≡ piecesOf r (s .security) n
+    → fall r t s n ≡ piecesOf (line r (s .security)) n
 unfolding blocks
-fall-sells r t s n e h = rw e (omega (arith, pieces-split r (s .security) (s .lots) n h))
-
-pub fall-least : (r : Rules) (t : List Turnover) (o : Order) (n : ℕ) → fall r t o n ≤ need r t o
-fall-least r t o n = omega arith
+fall-sells r t s n e h = rw e (omega (arith, pieces-split (line r (s .security)) (s .lots) n h))
 
 -- amounts of an asset
 asset-zero : (x : Asset) (side : Side) → ofAsset x side 0 ≡ 0
@@ -97,7 +94,7 @@ module _ (x : Asset) (r : Rules) (t : List Turnover) (j : ℕ) (o : Order) where
   pub need-none : needAt x r t j (withLots o 0) ≡ 0
   unfolding needAt
   need-none =
-      rw (blocks-zero (o .side) r (o .security) (limitOf t o)) (asset-nothing x (o .side) (placeFor r o) j)
+      rw (blocks-zero (o .side) (line r (o .security)) (limitOf t o)) (asset-nothing x (o .side) (placeFor r o) j)
 
   pub need-falls : (n : ℕ) → n ≤ o .lots
       → needAt x r t j (withLots o (o .lots - n)) + ofAsset x (o .side) (only (placeFor r o) j (fall r t o n))
@@ -105,7 +102,7 @@ module _ (x : Asset) (r : Rules) (t : List Turnover) (j : ℕ) (o : Order) where
   unfolding needAt
   need-falls n h =
       let rest = need r t (withLots o (o .lots - n)) in
-      let less = blocks-less (o .side) r (o .security) (limitOf t o) (o .lots) n h in
+      let less = blocks-less (o .side) (line r (o .security)) (limitOf t o) (o .lots) n h in
       let whole : rest + fall r t o n ≡ need r t o = omega arith in
       asset-add x (o .side) (only (placeFor r o) j rest) (only (placeFor r o) j (fall r t o n))
       ∙ ap (ofAsset x (o .side)) (sym (only-add (placeFor r o) j rest (fall r t o n)))

@@ -12,12 +12,9 @@ use Rattle.market.specs.Limits.{columns}
 use Rattle.market.specs.Tests.{sumBelow}
 use Rattle.market.specs.Day.{noPosition, place, position}
 use Rattle.market.specs.Needs.{only}
-use Rattle.market.specs.Positions.{change, receive, total}
+use Rattle.market.specs.Positions.{change, receive, total, totalAt}
 use Rattle.market.proofs.Lists.{same-all}
 use Rattle.market.proofs.Amounts.{change-law, length-change, only-zero, place-apart}
-
-abbrev pub totalIn : ℕ → ℕ → List Position → ℕ
-totalIn n c m = sumBelow n (λ p. total (position m (place p c)))
 
 abbrev onlyIn : ℕ → ℕ → ℕ → ℕ → ℕ
 onlyIn n c i a = sumBelow n (λ p. only i (place p c) a)
@@ -25,7 +22,7 @@ onlyIn n c i a = sumBelow n (λ p. only i (place p c) a)
 -- one changed position, summed over the participants
 pub total-change : (n c : ℕ) (m : List Position) (i : ℕ) (f : Position → Position) (out into : ℕ) → i < length m
     → total (f (position m i)) + out ≡ total (position m i) + into
-    → totalIn n c (change m i f) + onlyIn n c i out ≡ totalIn n c m + onlyIn n c i into
+    → totalAt n (change m i f) c + onlyIn n c i out ≡ totalAt n m c + onlyIn n c i into
 total-change zero c m i f out into h e = refl
 total-change (suc n) c m i f out into h e =
     let r = total-change n c m i f out into h e in
@@ -34,7 +31,7 @@ total-change (suc n) c m i f out into h e =
 
 -- an amount goes out
 pub total-falls : (n c : ℕ) (m : List Position) (i : ℕ) (f : Position → Position) (a : ℕ) → i < length m
-    → total (f (position m i)) + a ≡ total (position m i) → totalIn n c (change m i f) ≤ totalIn n c m
+    → total (f (position m i)) + a ≡ total (position m i) → totalAt n (change m i f) c ≤ totalAt n m c
 total-falls n c m i f a h e = omega (arith, total-change n c m i f a 0 h (omega arith), zero-in n)
   where
     zero-in : (n : ℕ) → onlyIn n c i 0 ≡ 0
@@ -86,7 +83,7 @@ share (suc n) q e c a h he hc = go (λ k. share n q e c a k he hc) (eqb q n) ref
 pub total-transfer : (n c q s e x : ℕ) (m : List Position) (f : Position → Position) → q < n → s < n
     → e < columns → c < columns → place q e < length m → place s e < length m
     → total (f (position m (place q e))) + x ≡ total (position m (place q e))
-    → totalIn n c (change (change m (place q e) f) (place s e) (receive x)) ≤ totalIn n c m
+    → totalAt n (change (change m (place q e) f) (place s e) (receive x)) c ≤ totalAt n m c
 total-transfer n c q s e x m f hq hs he hc iq is pays =
     let a = total-change n c m (place q e) f x 0 iq (omega arith) in
     let m1 = change m (place q e) f in
@@ -104,21 +101,21 @@ total-transfer n c q s e x m f hq hs he hc iq is pays =
 
 -- column e grows by a
 pub raised : (n q e a top : ℕ) (m : List Position) → q < n → e < columns → place q e < length m
-    → totalIn n e m + a ≤ top → (c : ℕ) → c < columns → totalIn n c m ≤ top
-    → totalIn n c (change m (place q e) (receive a)) ≤ top
+    → totalAt n m e + a ≤ top → (c : ℕ) → c < columns → totalAt n m c ≤ top
+    → totalAt n (change m (place q e) (receive a)) c ≤ top
 raised n q e a top m hq he h fits c hc before =
     let t = total-change n c m (place q e) (receive a) 0 a h (omega arith) in
     go (eqb e c) refl t (share n q e c a hq he hc)
   where
     go : (k : Bool) → eqb e c ≡ k
-        → totalIn n c (change m (place q e) (receive a)) + onlyIn n c (place q e) 0
-        ≡ totalIn n c m + onlyIn n c (place q e) a
-        → onlyIn n c (place q e) a ≡ cond (eqb e c) a 0 → totalIn n c (change m (place q e) (receive a)) ≤ top
+        → totalAt n (change m (place q e) (receive a)) c + onlyIn n c (place q e) 0
+        ≡ totalAt n m c + onlyIn n c (place q e) a
+        → onlyIn n c (place q e) a ≡ cond (eqb e c) a 0 → totalAt n (change m (place q e) (receive a)) c ≤ top
     go true k t s =
-        omega (arith, t, rw k at s, subst (λ (x : ℕ). totalIn n x m + a ≤ top) (eqb-true e c k) fits)
+        omega (arith, t, rw k at s, subst (λ (x : ℕ). totalAt n m x + a ≤ top) (eqb-true e c k) fits)
     go false k t s = omega (arith, t, rw k at s)
 
-pub zero-total : (k n c : ℕ) → totalIn n c (replicate k noPosition) ≡ 0
+pub zero-total : (k n c : ℕ) → totalAt n (replicate k noPosition) c ≡ 0
 zero-total k zero c = refl
 zero-total k (suc n) c =
     let r = zero-total k n c in let z = ap total (same-all k (place n c) noPosition) in omega arith

@@ -6,7 +6,7 @@ use Rattle.market.specs.declared.Order.{Order}
 use Rattle.market.specs.declared.Position.{Position}
 use Rattle.market.specs.declared.Turnover.{Turnover}
 use Rattle.market.specs.Tests.{sumBelow}
-use Rattle.market.specs.Day.{Day, Rules, currencyOf, place, position, positions, turnoverAt, withLots, withMoney}
+use Rattle.market.specs.Day.{Day, Rules, currencyOf, line, place, position, positions, turnoverAt, withLots, withMoney}
 use Rattle.market.specs.Day.{withPieces, withPositions}
 use Rattle.market.specs.Needs.{assetOf, need, piecesOf, placeFor, sumFor}
 
@@ -71,8 +71,8 @@ piecesSettled d b s n pieces =
 -- "A trade of n lots at price p" between a buy b and a sell s
 unfoldable pub settle : Day → Order → Order → ℕ → ℕ → Day
 settle d b s p n =
-    withPieces (withMoney d (moneySettled d b s n (sumFor (d .rules) (b .security) p n)))
-    (piecesSettled d b s n (piecesOf (d .rules) (b .security) n))
+    withPieces (withMoney d (moneySettled d b s n (sumFor (line (d .rules) (b .security)) p n)))
+    (piecesSettled d b s n (piecesOf (line (d .rules) (b .security)) n))
 
 -- Q and T with q pieces and t money more
 abbrev pub counting : ℕ → ℕ → Turnover → Turnover
@@ -80,12 +80,12 @@ counting q t x = record { pieces = x .pieces + q; money = x .money + t }
 
 -- "Each trade adds to Q and T": n lots of security s at price p
 unfoldable pub counted : Rules → List Turnover → ℕ → ℕ → ℕ → List Turnover
-counted r t s p n = set t s (counting (piecesOf r s n) (sumFor r s p n) (turnoverAt t s))
+counted r t s p n = set t s (counting (piecesOf (line r s) n) (sumFor (line r s) p n) (turnoverAt t s))
 
 -- free plus blocked
 abbrev pub total : Position → ℕ
 total p = p .free + p .blocked
 
 -- a currency's or a security's total over all participants
-abbrev pub totalAt : Rules → List Position → ℕ → ℕ
-totalAt r l column = sumBelow (r .participants) (λ p. total (position l (place p column)))
+abbrev pub totalAt : ℕ → List Position → ℕ → ℕ
+totalAt participants l column = sumBelow participants (λ p. total (position l (place p column)))
