@@ -9,13 +9,15 @@ use borrow.Author.Tests.{eqb-true, eqb-false, ne-eqb, ltb-true}
 use Rattle.market.specs.declared.Member.{Member}
 use Rattle.market.specs.declared.Order.{Order}
 use Rattle.market.specs.declared.Phase.the-variants.{Open}
+use Rattle.market.specs.declared.Position.{Position}
 use Rattle.market.specs.declared.Side.{Side}
 use Rattle.market.specs.declared.TimeInForce.{TimeInForce}
 use Rattle.market.specs.declared.TimeInForce.the-variants.{FillOrKill, ImmediateOrCancel, Kept}
 use Rattle.market.specs.declared.Turnover.{Turnover}
 use Rattle.market.specs.Limits.{maxLots, maxWaiting}
 use Rattle.market.specs.Tests.{_=?_, sumOf}
-use Rattle.market.specs.Day.{Asset, Day, Rules, line, turnoverAt, withLots, withWaiting}
+use Rattle.market.specs.Day.{Asset, Day, Rules, line, turnoverAt, withLots, withMoney}
+use Rattle.market.specs.Day.{withPieces, withWaiting}
 use Rattle.market.specs.Codes.{codesOf, given}
 use Rattle.market.specs.Needs.{needAt, only, piecesOf}
 use Rattle.market.specs.Positions.{blockFor, releaseFor}
@@ -35,7 +37,7 @@ use Rattle.market.proofs.Matching.{uncrossed-append}
 use Rattle.conservation.specs.Book.{Book, beforeTrades, enters, feedTrades}
 use Rattle.conservation.specs.Statement.{allShown, ownLots, shown}
 use Rattle.conservation.proofs.Listed.{shown-append}
-use Rattle.conservation.proofs.Good.{Good, KindOk, kinds-priced, priced-kinds, relist}
+use Rattle.conservation.proofs.Good.{Agree, Good, KindOk, kinds-priced, priced-kinds, relist}
 use Rattle.conservation.proofs.Blocks.{block-agree, release-agree}
 use Rattle.conservation.proofs.Match.{Matching, waits}
 use Rattle.conservation.proofs.Fill.{fill-ok}
@@ -54,6 +56,23 @@ kinds-of d w h a = all-map (λ o. KeptOk (d .rules) (o .security) (o .kind)) (Ki
 
 -- after the fill: a kept remainder waits, any other is freed
 module _ {U : Type 0} {r : Rules} (b : Book) (d : Day) (e : Order) where
+  -- nothing of the entry is left, and positions m and q agree with that
+  entry-gone : (k : TimeInForce) (m q : List Position) → Matching U k r b d e
+      → Agree r [] b (withPieces (withMoney d m) q) → b .waiting ≡ allShown (d .waiting)
+      → Good U r b (withPieces (withMoney d m) q)
+  entry-gone k m q f a w = record {
+    agree = a;
+    waiting = w;
+    orders = f .orders;
+    codes = numbered-drop (given d) (codesOf d) (d .waiting) e (f .codes);
+    uncrossed = λ u h. f .uncrossed u;
+    kinds = kinds-of d (d .waiting) (f .phase) (f .priced);
+    limit = f .limit;
+    room = omega (arith, f .room);
+    turnoverLength = f .turnoverLength;
+    turnovers = λ s hs. turnover-spent (given d) _ (turnoverAt (d .turnover) s) (f .turnovers s hs);
+  }
+
   finish-kept : Matching U Kept r b d e → (0 < e .lots → All (λ o. fits e o ≡ false) (d .waiting))
       → Good U r b (finished Kept d e)
   finish-kept m ended = go (e .lots =? 0) refl (m .waiting)
@@ -63,19 +82,10 @@ module _ {U : Type 0} {r : Rules} (b : Book) (d : Day) (e : Order) where
       go true q w =
           let n = eqb-true (e .lots) 0 q in
           rw (append-nil (d .waiting))
-          record {
-            agree = relist (e ∷ []) [] (d .waiting) (b .waiting) b d (m .agree)
-                (λ y j. omega (arith, no-need y (d .rules) (d .turnover) j e n));
-            waiting = w ∙ ap allShown (append-nil (d .waiting));
-            orders = m .orders;
-            codes = numbered-drop (given d) (codesOf d) (d .waiting) e (m .codes);
-            uncrossed = λ u h. m .uncrossed u;
-            kinds = kinds-of d (d .waiting) (m .phase) (m .priced);
-            limit = m .limit;
-            room = omega (arith, m .room);
-            turnoverLength = m .turnoverLength;
-            turnovers = λ s hs. turnover-spent (given d) _ (turnoverAt (d .turnover) s) (m .turnovers s hs);
-          }
+          (entry-gone Kept (d .money) (d .pieces) m
+          (relist (e ∷ []) [] (d .waiting) (b .waiting) b d (m .agree)
+          (λ y j. omega (arith, no-need y (d .rules) (d .turnover) j e n)))
+          (w ∙ ap allShown (append-nil (d .waiting))))
       go false q w =
           let some : 0 < e .lots = omega (arith, eqb-false (e .lots) 0 q) in
           let ok : OrderOk (d .rules) e =
@@ -98,20 +108,11 @@ module _ {U : Type 0} {r : Rules} (b : Book) (d : Day) (e : Order) where
 
   finish-free : (k : TimeInForce) → waits k e ≡ [] → Matching U k r b d e → Good U r b (releaseFor d e)
   unfolding releaseFor
-  finish-free k w m = record {
-    agree = release-agree (b .waiting) b d e (m .participant) (m .security) (e ∷ []) [] (d .waiting) (m .agree)
-        (λ y j. omega arith);
-    waiting =
-        m .waiting ∙ ap (λ (y : List Order). allShown (d .waiting ++ y)) w ∙ ap allShown (append-nil (d .waiting));
-    orders = m .orders;
-    codes = numbered-drop (given d) (codesOf d) (d .waiting) e (m .codes);
-    uncrossed = λ u h. m .uncrossed u;
-    kinds = kinds-of d (d .waiting) (m .phase) (m .priced);
-    limit = m .limit;
-    room = omega (arith, m .room);
-    turnoverLength = m .turnoverLength;
-    turnovers = λ s hs. turnover-spent (given d) _ (turnoverAt (d .turnover) s) (m .turnovers s hs);
-  }
+  finish-free k w m =
+      entry-gone k _ _ m
+      (release-agree (b .waiting) b d e (m .participant) (m .security) (e ∷ []) [] (d .waiting) (m .agree)
+      (λ y j. omega arith))
+      (m .waiting ∙ ap (λ (y : List Order). allShown (d .waiting ++ y)) w ∙ ap allShown (append-nil (d .waiting)))
 
   finish : (k : TimeInForce) → Matching U k r b d e → (0 < e .lots → All (λ o. fits e o ≡ false) (d .waiting))
       → Good U r b (finished k d e)

@@ -9,10 +9,11 @@ use Rattle.market.specs.declared.Kind.the-variants as kind
 use Rattle.market.specs.declared.Order.{Order}
 use Rattle.market.specs.declared.Phase.{Phase}
 use Rattle.market.specs.declared.Phase.the-variants.{Closing, Open}
+use Rattle.market.specs.declared.Position.{Position}
 use Rattle.market.specs.Limits.{maxSecurities, maxWaiting}
 use Rattle.market.specs.Tests.{sumOf}
 use Rattle.market.specs.Day.{Asset, Day, Rules, columnsOf, line, positions, totalLimit, turnoverAt}
-use Rattle.market.specs.Day.{withWaiting}
+use Rattle.market.specs.Day.{withMoney, withPieces, withWaiting}
 use Rattle.market.specs.Codes.{codesOf, given}
 use Rattle.market.specs.Needs.{needAt}
 use Rattle.market.specs.Sound.{isClosing, isOpen, kindSound}
@@ -74,6 +75,23 @@ relist x x′ w′ v b d a same = record {
   turnover = a .turnover;
   phase = a .phase;
   held = λ y. held-needs (a .held y) _ (same y);
+}
+
+-- another book, and positions m and q, that agree with the orders as they are
+pub repositioned : {U : Type 0} {r : Rules} (b b′ : Book) (d : Day) (m q : List Position) → Good U r b d
+    → Agree r [] b′ (withPieces (withMoney d m) q) → b′ .waiting ≡ allShown (d .waiting)
+    → Good U r b′ (withPieces (withMoney d m) q)
+repositioned b b′ d m q g a w = record {
+  agree = a;
+  waiting = w;
+  orders = g .orders;
+  codes = g .codes;
+  uncrossed = g .uncrossed;
+  kinds = g .kinds;
+  limit = g .limit;
+  room = g .room;
+  turnoverLength = g .turnoverLength;
+  turnovers = g .turnovers;
 }
 
 -- while open, kept orders with good prices wait, and no others

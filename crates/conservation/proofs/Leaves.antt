@@ -22,7 +22,7 @@ use Rattle.market.proofs.Matching.{Uncrossed, uncrossed-remove}
 use Rattle.conservation.specs.Book.{Book, Waiting, allGone, dropOrder, withOrders}
 use Rattle.conservation.specs.Statement.{allShown}
 use Rattle.conservation.proofs.Listed.{Located, place-located}
-use Rattle.conservation.proofs.Good.{Good, KindOk, relist}
+use Rattle.conservation.proofs.Good.{Good, KindOk, relist, repositioned}
 use Rattle.conservation.proofs.Blocks.{release-agree}
 
 -- the order at place i leaves; v is the book's list without it
@@ -73,18 +73,9 @@ unfolding leaveFirst leave
 leaveFirst-good zero b d g e =
     let none = no-orders (d .waiting) e in
     record {
-      good = record {
-        agree = relist [] [] (d .waiting) [] b d (g .agree) (λ y j. refl);
-        waiting = sym (ap allShown none);
-        orders = g .orders;
-        codes = g .codes;
-        uncrossed = g .uncrossed;
-        kinds = g .kinds;
-        limit = g .limit;
-        room = g .room;
-        turnoverLength = g .turnoverLength;
-        turnovers = g .turnovers;
-      };
+      good =
+          repositioned b (withOrders b []) d (d .money) (d .pieces) g
+          (relist [] [] (d .waiting) [] b d (g .agree) (λ y j. refl)) (sym (ap allShown none));
       empty = none;
     }
 leaveFirst-good (suc n) b d g e =

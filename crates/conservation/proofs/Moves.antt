@@ -7,7 +7,7 @@ use mathlib.Core.Bool.{true}
 use borrow.Author.Tests.{leb-true}
 use Rattle.market.specs.declared.Position.{Position}
 use Rattle.market.specs.Limits.{places}
-use Rattle.market.specs.Day.{Asset, Day, Money, Pieces, Rules, columnsOf, place, position, positions, totalLimit}
+use Rattle.market.specs.Day.{Asset, Day, Money, Pieces, Rules, columnsOf, ifMoney, place, position, positions, totalLimit}
 use Rattle.market.specs.Day.{withPositions}
 use Rattle.market.specs.Positions.{draw, receive, totalAt}
 use Rattle.market.specs.Questions.{isFree, totalFits}
@@ -15,7 +15,7 @@ use Rattle.market.specs.Step.{moved}
 use Rattle.market.proofs.Totals.{raised, total-falls}
 use Rattle.conservation.specs.Book.{Balance, Book, add, balances, sub, withBalances}
 use Rattle.conservation.proofs.Held.{Held, held-move, held-place}
-use Rattle.conservation.proofs.Good.{Good, needsOf}
+use Rattle.conservation.proofs.Good.{Good, needsOf, repositioned}
 
 -- the positions of one asset and their balances are others that agree
 module _ {U : Type 0} {r : Rules} (x : Asset) (b : Book) (d : Day) (g : Good U r b d) (m : List Position)
@@ -23,24 +23,15 @@ module _ {U : Type 0} {r : Rules} (x : Asset) (b : Book) (d : Day) (g : Good U r
   moved-good :
       Held (d .rules) (columnsOf x (d .rules)) (totalLimit x) m l (needsOf x d (d .waiting))
       → Good U r (withBalances x b l) (withPositions x d m)
-  moved-good h = record {
-    agree = record {
-      rules = g .agree .rules;
-      rulesOk = g .agree .rulesOk;
-      held = held x h;
-      turnover = g .agree .turnover;
-      phase = g .agree .phase;
-    };
-    waiting = g .waiting;
-    orders = g .orders;
-    codes = g .codes;
-    uncrossed = g .uncrossed;
-    kinds = g .kinds;
-    limit = g .limit;
-    room = g .room;
-    turnoverLength = g .turnoverLength;
-    turnovers = g .turnovers;
-  }
+  moved-good h =
+      repositioned b (withBalances x b l) d (ifMoney x m (d .money)) (ifMoney x (d .pieces) m) g
+      (record {
+        rules = g .agree .rules;
+        rulesOk = g .agree .rulesOk;
+        held = held x h;
+        turnover = g .agree .turnover;
+        phase = g .agree .phase;
+      }) (g .waiting)
     where
       held : (x : Asset)
           → Held (d .rules) (columnsOf x (d .rules)) (totalLimit x) m l (needsOf x d (d .waiting))
