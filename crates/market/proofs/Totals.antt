@@ -1,5 +1,6 @@
 -- A currency's or a security's total over all participants.
 use Prim.Native.Nat.{ℕ, zero, suc, _+_, _≤_, _<_}
+use native.Mathlib.Numerals.{add-one}
 use native.Mathlib.Omega.{arith}
 use mathlib.Core.Path.{_≡_, refl, ap, subst}
 use mathlib.Core.List.{List}
@@ -119,3 +120,15 @@ pub zero-total : (k n c : ℕ) → totalAt n (replicate k noPosition) c ≡ 0
 zero-total k zero c = refl
 zero-total k (suc n) c =
     let r = zero-total k n c in let z = ap total (same-all k (place n c) noPosition) in omega arith
+
+-- a sum below n, and its part below i and at i
+pub sum-next : (f : ℕ → ℕ) (i : ℕ) → sumBelow (i + 1) f ≡ f i + sumBelow i f
+sum-next f i = ap (λ (n : ℕ). sumBelow n f) (add-one i)
+
+pub sum-part : (f : ℕ → ℕ) (n i : ℕ) → i < n → f i + sumBelow i f ≤ sumBelow n f
+sum-part f zero i h = absurd (omega arith)
+sum-part f (suc n) i h = go (λ l. sum-part f n i l) (eqb i n) refl
+  where
+    go : (i < n → f i + sumBelow i f ≤ sumBelow n f) → (k : Bool) → eqb i n ≡ k → f i + sumBelow i f ≤ f n + sumBelow n f
+    go again true e = rw (eqb-true i n e) (omega arith)
+    go again false e = omega (arith, again (omega (arith, eqb-false i n e)))

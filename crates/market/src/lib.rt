@@ -1,6 +1,7 @@
 // The types of a trading day, in document 01's words, and its limits.
 
 ghost use mathlib.Core.Path.{_≡_};
+ghost use Rattle.market.specs.declared.Answer.the-variants.{Done, Refused};
 ghost use Rattle.market.specs.Limits.{limitsInOrder};
 
 pub const MAX_PARTICIPANTS: u64 = 16;
@@ -139,4 +140,24 @@ pub enum Answer {
 pub struct Outcome {
     pub answer: Answer,
     pub state: State,
+}
+
+// A refusal with place 0, and the state as it was.
+pub fn refused(s: State, number: u64) -> Outcome
+    ensures { λ r. ⌜ r ≡ record { answer = Refused number 0; state = s } ⌝ }
+{
+    Outcome {
+        answer: Answer::Refused(number, 0),
+        state: s,
+    }
+}
+
+// What calls without an order answer: zeros.
+pub fn accepted(s: State) -> Outcome
+    ensures { λ r. ⌜ r ≡ record { answer = Done 0 0 0 0; state = s } ⌝ }
+{
+    Outcome {
+        answer: Answer::Done(0, 0, 0, 0),
+        state: s,
+    }
 }
