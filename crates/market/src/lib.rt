@@ -3,6 +3,7 @@
 ghost use mathlib.Core.Path.{_≡_};
 ghost use Rattle.market.specs.declared.Answer.the-variants.{Done, Refused};
 ghost use Rattle.market.specs.Limits.{limitsInOrder};
+ghost use Rattle.market.specs.Sound.{isClosing, isOpen};
 
 pub const MAX_PARTICIPANTS: u64 = 16;
 
@@ -140,6 +141,26 @@ pub enum Answer {
 pub struct Outcome {
     pub answer: Answer,
     pub state: State,
+}
+
+pub fn is_open(phase: Phase) -> bool
+    ensures { λ r. ⌜ r ≡ isOpen phase ⌝ }
+{
+    match phase {
+        Phase::Open => true,
+        Phase::Closing => false,
+        Phase::Closed => false,
+    }
+}
+
+pub fn is_closing(phase: Phase) -> bool
+    ensures { λ r. ⌜ r ≡ isClosing phase ⌝ }
+{
+    match phase {
+        Phase::Open => false,
+        Phase::Closing => true,
+        Phase::Closed => false,
+    }
 }
 
 // A refusal with place 0, and the state as it was.

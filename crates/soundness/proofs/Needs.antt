@@ -1,0 +1,148 @@
+-- Laws of needs added up place by place.
+use Prim.Native.Nat.{ℕ, _+_, _*_, _≤_, _<_}
+use native.Mathlib.Omega.{arith}
+use native.Mathlib.Nat.{le-trans, mul-le-mul}
+use mathlib.Core.Path.{_≡_, refl, ap, sym, _∙_}
+use mathlib.Core.List.{List}
+use mathlib.Core.Bool.{Bool, true, false, cond}
+use lib.Dec.{eqb, lit≤}
+use lib.ListN.{length, getD, set, drop, replicate, length-set}
+use lib.Seq.{getD-set-same, getD-set-other}
+use borrow.Author.Tests.{eqb-false, eqb-true, ne-eqb}
+use Rattle.market.specs.declared.Order.{Order}
+use Rattle.market.specs.declared.Security.{Security}
+use Rattle.market.specs.declared.Side.{Side}
+use Rattle.market.specs.declared.Side.the-variants.{Buy, Sell}
+use Rattle.market.specs.declared.Turnover.{Turnover}
+use Rattle.market.specs.Limits.{columns, maxLot, maxLots, maxPieces, maxPrice, places}
+use Rattle.market.specs.Tests.{_=?_, allBelow, sumOf}
+use Rattle.market.specs.Day.{Asset, Day, Money, Pieces, Rules, columnsOf, currencyOf, firstOrders, line, orderAt, place}
+use Rattle.market.specs.Day.{position, positions}
+use Rattle.market.specs.Sound.{blockedSound}
+use Rattle.market.specs.Needs.{blocks, columnOf, limitOf, need, needAt, ofAsset, only, piecesOf, sumFor}
+use Rattle.market.proofs.Amounts.{only-same}
+use Rattle.market.proofs.Lists.{same-all}
+use Rattle.soundness.specs.Parts.{HoldsNeeds, needPlace, needPlaceFor}
+use Rattle.soundness.proofs.Loops.{below-same, waiting-at, waiting-end}
+use Rattle.soundness.proofs.Parts.{Reckonable}
+
+-- an order needs at most this: 10^6 for each of 10^7 pieces
+abbrev pub maxNeed : ℕ
+maxNeed = maxPrice * maxPieces
+
+blocks-top : (side : Side) (l : Security) (price lots : ℕ) → l .lot ≤ maxLot → price ≤ maxPrice → lots ≤ maxLots
+    → blocks side l price lots ≤ maxNeed
+unfolding blocks sumFor piecesOf
+blocks-top Buy l price lots a b c = mul-le-mul b (mul-le-mul c a)
+blocks-top Sell l price lots a b c = le-trans (mul-le-mul c a) (lit≤ tt)
+
+pub need-top : (r : Rules) (t : List Turnover) (o : Order) → Reckonable r t o → need r t o ≤ maxNeed
+need-top r t o f = blocks-top (o .side) (line r (o .security)) (limitOf t o) (o .lots) (f .lot) (f .price) (f .lots)
+
+-- amounts at one place
+only-apart : (i j a : ℕ) → (i ≡ j → ⊥) → only i j a ≡ 0
+unfolding only
+only-apart i j a h = rw (ne-eqb i j h)
+
+only-top : (i j a : ℕ) → only i j a ≤ a
+unfolding only
+only-top i j a = go (eqb i j)
+  where
+    go : (k : Bool) → cond k a 0 ≤ a
+    go true = omega arith
+    go false = omega arith
+
+only-shift : (k i j a : ℕ) → only (k + i) (k + j) a ≡ only i j a
+only-shift k i j a = go (eqb i j) refl
+  where
+    go : (z : Bool) → eqb i j ≡ z → only (k + i) (k + j) a ≡ only i j a
+    go true q = rw (eqb-true i j q) (only-same (k + j) a ∙ sym (only-same j a))
+    go false q =
+        only-apart (k + i) (k + j) a (λ e. eqb-false i j q (omega arith)) ∙ sym (only-apart i j a (eqb-false i j q))
+
+-- what an order needs of an asset at a place stands where the list has that place
+at-place : (x : Asset) (side : Side) (r : Rules) (p s j a : ℕ) → place p (columnOf side r s) < places → j < places
+    → ofAsset x side (only (place p (columnOf side r s)) j a)
+    ≡ only (needPlaceFor side p (currencyOf r s) s) (needPlace x j) a
+at-place Money Buy r p s j a hp hj = sym (only-shift 0 (place p (currencyOf r s)) j a)
+at-place Money Sell r p s j a hp hj = sym (only-apart (places + place p s) (0 + j) a (λ e. omega arith))
+at-place Pieces Buy r p s j a hp hj =
+    sym (only-apart (0 + place p (currencyOf r s)) (places + j) a (λ e. omega arith))
+at-place Pieces Sell r p s j a hp hj = sym (only-shift places (place p s) j a)
+
+column-inside : (side : Side) (r : Rules) (t : List Turnover) (o : Order) → Reckonable r t o
+    → place (o .participant) (columnOf side r (o .security)) < places
+column-inside Buy r t o f = omega (arith, f .participant, f .currency)
+column-inside Sell r t o f = omega (arith, f .participant, f .security)
+
+pub place-inside : (side : Side) (r : Rules) (t : List Turnover) (o : Order) → Reckonable r t o
+    → needPlaceFor side (o .participant) (currencyOf r (o .security)) (o .security) < places + places
+place-inside Buy r t o f = omega (arith, f .participant, f .currency)
+place-inside Sell r t o f = omega (arith, f .participant, f .security)
+
+-- an amount more at one place of a list
+put : (l : List ℕ) (at v k : ℕ) → at < length l → getD (set l at (getD l at 0 + v)) k 0 ≡ getD l k 0 + only at k v
+put l at v k h = go (eqb at k) refl
+  where
+    go : (z : Bool) → eqb at k ≡ z → getD (set l at (getD l at 0 + v)) k 0 ≡ getD l k 0 + only at k v
+    go true q =
+        rw (← eqb-true at k q) (getD-set-same l at (getD l at 0 + v) 0 h
+        ∙ ap (λ (a : ℕ). getD l at 0 + a) (sym (only-same at v)))
+    go false q =
+        let n = only-apart at k v (eqb-false at k q) in
+        getD-set-other l at k (getD l at 0 + v) 0 (λ e. eqb-false at k q (sym e)) ∙ omega arith
+
+-- the needs of the waiting orders before place i are in the list
+pub record Added (r : Rules) (t : List Turnover) (n : ℕ) (w : List Order) (i : ℕ) (l : List ℕ) : Type 0 where
+  pub within : i ≤ n
+  pub size : length l ≡ places + places
+  pub small : (k : ℕ) → getD l k 0 ≤ i * maxNeed
+  pub exact : (x : Asset) (j : ℕ) → j < places
+      → getD l (needPlace x j) 0 + sumOf (needAt x r t j) (drop i (firstOrders n w))
+      ≡ sumOf (needAt x r t j) (firstOrders n w)
+
+pub added-none : (r : Rules) (t : List Turnover) (n : ℕ) (w : List Order)
+    → Added r t n w 0 (replicate (places + places) 0)
+added-none r t n w = record {
+  within = omega arith;
+  size = refl;
+  small = λ k. omega (arith, same-all {A = ℕ} (places + places) k 0);
+  exact = λ x j h. omega (arith, same-all {A = ℕ} (places + places) (needPlace x j) 0);
+}
+
+module _ (r : Rules) (t : List Turnover) (n : ℕ) (w : List Order) (i : ℕ) (l : List ℕ) (a : Added r t n w i l) where
+  pub added-next : (at v : ℕ) → i < n → Reckonable r t (orderAt w i)
+      → at ≡ needPlaceFor ((orderAt w i) .side) ((orderAt w i) .participant)
+      (currencyOf r ((orderAt w i) .security)) ((orderAt w i) .security)
+      → v ≡ need r t (orderAt w i) → Added r t n w (i + 1) (set l at (getD l at 0 + v))
+  unfolding needAt
+  added-next at v h f ea ev =
+      let o = orderAt w i in
+      let inside : at < length l = omega (arith, a .size, place-inside (o .side) r t o f) in
+      let top = need-top r t o f in
+      record {
+        within = omega arith;
+        size = length-set l at (getD l at 0 + v) ∙ a .size;
+        small = λ k. omega (arith, put l at v k inside, a .small k, only-top at k v);
+        exact = λ x j hj.
+            let b = a .exact x j hj in
+            let p = put l at v (needPlace x j) inside in
+            let q : needAt x r t j o ≡ only at (needPlace x j) v =
+            rw (ea, ev) (at-place x (o .side) r (o .participant) (o .security) j (need r t o)
+            (column-inside (o .side) r t o f) hj) in
+            omega (arith, rw (waiting-at n w i h) at b);
+      }
+
+  pub added-all : n ≤ i → (x : Asset) (j : ℕ) → j < places
+      → getD l (needPlace x j) 0 ≡ sumOf (needAt x r t j) (firstOrders n w)
+  added-all h x j hj = let b = a .exact x j hj in omega (arith, rw (waiting-end n w i h) at b)
+
+-- what is blocked is tested against the list
+pub blocked-same : (x : Asset) (d : Day) (l : List ℕ) → HoldsNeeds d l → d .rules .participants ≤ columns
+    → columnsOf x (d .rules) ≤ columns
+    → allBelow (d .rules .participants) (λ p. allBelow (columnsOf x (d .rules))
+    (λ c. (position (positions x d) (place p c)) .blocked =? getD l (needPlace x (place p c)) 0)) ≡ blockedSound x d
+unfolding blockedSound
+blocked-same x d l h hp hc =
+    below-same _ _ (d .rules .participants) (λ p i. below-same _ _ (columnsOf x (d .rules))
+    (λ c j. ap (λ (a : ℕ). (position (positions x d) (place p c)) .blocked =? a) (h x (place p c) (omega arith))))

@@ -1,0 +1,162 @@
+-- What an orderly day is known to hold, and that sound means orderly and covered.
+use Prim.Native.Nat.{ℕ, _≤_, _<_}
+use native.Mathlib.Omega.{arith}
+use native.Mathlib.Nat.{div-le-of-le-mul}
+use mathlib.Core.Path.{_≡_, refl, subst}
+use mathlib.Core.List.{List}
+use mathlib.Core.Bool.{Bool, true, false}
+use lib.ListN.{length}
+use borrow.Author.Tests.{leb-true, le-ltb, lt-ltb, ltb-true}
+use Rattle.market.specs.declared.Kind.{Kind}
+use Rattle.market.specs.declared.Kind.the-variants as kind
+use Rattle.market.specs.declared.Order.{Order}
+use Rattle.market.specs.declared.Security.{Security}
+use Rattle.market.specs.declared.Phase.{Phase}
+use Rattle.market.specs.declared.Turnover.{Turnover}
+use Rattle.market.specs.Limits.{columns, maxLot, maxLots, maxPrice, maxSecurities, maxStep, maxWaiting}
+use Rattle.market.specs.Tests.{_and_, allOf, known}
+use Rattle.market.specs.Day.{Day, Rules, currencyOf, firstOrders, line, noOrder, orderAt, turnoverAt}
+use Rattle.market.specs.Codes.{given, numbered}
+use Rattle.market.specs.Needs.{closingPrice, limitOf, priceOr}
+use Rattle.market.specs.Sound.{countsSound, kindSound, lineSound, lotsSound, orderSound, priceSound, rulesSound}
+use Rattle.market.specs.Sound.{sound, turnoverSound}
+use Rattle.market.proofs.Logic.{and-true, below-all, both, within-high, within-low}
+use Rattle.market.proofs.Lists.{all-at, test-all}
+use Rattle.market.proofs.View.{first-length}
+use Rattle.market.proofs.Known.{RulesOk, rules-ok}
+use Rattle.market.proofs.Turnovers.{turnover-ok}
+use Rattle.soundness.specs.Parts.{covered, orderly}
+use Rattle.soundness.proofs.Loops.{first-at, same}
+
+pub record Orderly (d : Day) : Type 0 where
+  pub count : length (d .waiting) ≤ maxWaiting
+  pub rules : RulesOk (d .rules)
+  pub turnovers : (s : ℕ) → s < d .rules .securities → turnoverSound (given d) (turnoverAt (d .turnover) s) ≡ true
+  pub orders : allOf (orderSound d) (d .waiting) ≡ true
+
+pub orderly-holds : (d : Day) → orderly d ≡ true → Orderly d
+unfolding orderly rulesSound
+orderly-holds d e =
+    let a = and-true e in
+    let counts = and-true (a .1) in
+    let table = and-true (counts .1) in
+    let codes = and-true (table .1) in
+    let turnovers = and-true (codes .1) in
+    record {
+      count = leb-true (length (d .waiting)) maxWaiting (a .0);
+      rules = rules-ok (d .rules) (both (counts .0) (table .0));
+      turnovers = below-all (d .rules .securities) (λ s. turnoverSound (given d) (turnoverAt (d .turnover) s)) (turnovers .0);
+      orders = (and-true (turnovers .1)) .1;
+    }
+
+pub few-securities : (participants currencies securities : ℕ) → countsSound participants currencies securities ≡ true
+    → securities ≤ maxSecurities
+unfolding countsSound
+few-securities participants currencies securities e =
+    within-high 1 maxSecurities securities ((and-true ((and-true e) .1)) .1)
+
+-- the parts of "sound" in the order of the code
+pub two-parts : (d : Day) → sound d ≡ orderly d and covered d
+unfolding sound orderly covered rulesSound numbered
+two-parts d = same _ _ there back
+  where
+    there : sound d ≡ true → orderly d and covered d ≡ true
+    there e =
+        let rules = and-true e in
+        let r = and-true (rules .0) in
+        let codes = and-true (rules .1) in
+        let n = and-true (codes .0) in
+        let count = and-true (codes .1) in
+        let orders = and-true (count .1) in
+        let money = and-true (orders .1) in
+        let pieces = and-true (money .1) in
+        let t = and-true (pieces .1) in
+        let u = and-true (t .1) in
+        both (both (count .0) (both (r .0) (both (r .1) (both (n .0) (both (u .1) (both (n .1) (orders .0)))))))
+        (both (money .0) (both (pieces .0) (both (t .0) (u .0))))
+
+    back : orderly d and covered d ≡ true → sound d ≡ true
+    back e =
+        let parts = and-true e in
+        let count = and-true (parts .0) in
+        let counts = and-true (count .1) in
+        let table = and-true (counts .1) in
+        let codes = and-true (table .1) in
+        let turnovers = and-true (codes .1) in
+        let rises = and-true (turnovers .1) in
+        let money = and-true (parts .1) in
+        let pieces = and-true (money .1) in
+        let t = and-true (pieces .1) in
+        both (both (counts .0) (table .0)) (both (both (codes .0) (rises .0)) (both (count .0) (both (rises .1)
+        (both (money .0) (both (pieces .0) (both (t .0) (both (t .1) (turnovers .0))))))))
+
+-- an order of an unknown security, and what is left to ask of one that is known
+and-none : (a : Bool) → a and false ≡ false
+unfolding _and_
+and-none true = refl
+and-none false = refl
+
+pub unknown-security : (d : Day) (o : Order) → d .rules .securities ≤ o .security → orderSound d o ≡ false
+unfolding orderSound _and_
+unknown-security d o h = rw (le-ltb _ _ h) (and-none (known (o .participant) (d .rules .participants)))
+
+pub known-security : (d : Day) (o : Order) → o .security < d .rules .securities
+    → orderSound d o ≡ known (o .participant) (d .rules .participants) and lotsSound (o .lots)
+    and kindSound (d .phase) (line (d .rules) (o .security)) (turnoverAt (d .turnover) (o .security)) (o .kind)
+unfolding orderSound _and_
+known-security d o h = rw (lt-ltb _ _ h)
+
+-- a price step above 0, by which a price can be divided
+pub line-step : (r : Rules) (s : ℕ) → rulesSound r ≡ true → s < r .securities → 0 < (line r s) .step
+unfolding rulesSound lineSound
+line-step r s e h =
+    let a = below-all (r .securities) (λ s. lineSound (r .currencies) (line r s)) ((and-true e) .1) s h in
+    within-low 1 maxStep ((line r s) .step) ((and-true ((and-true a) .1)) .1)
+
+-- the test of each waiting order, from the test of all
+pub each-waiting : (f : Order → Bool) (n : ℕ) (l : List Order) (i : ℕ) → allOf f (firstOrders n l) ≡ true → i < n
+    → f (orderAt l i) ≡ true
+each-waiting f n l i e h =
+    let size = first-length n l in
+    let a = test-all (λ o. f o ≡ true) f (firstOrders n l) (λ o t. t) e in
+    subst (λ (o : Order). f o ≡ true) (first-at n l i h)
+    (all-at (λ o. f o ≡ true) noOrder (firstOrders n l) i a (omega arith))
+
+-- a waiting order whose need can be reckoned
+pub record Reckonable (r : Rules) (t : List Turnover) (o : Order) : Type 0 where
+  pub participant : o .participant < columns
+  pub security : o .security < maxSecurities
+  pub currency : currencyOf r (o .security) < columns
+  pub lots : o .lots ≤ maxLots
+  pub lot : (line r (o .security)) .lot ≤ maxLot
+  pub price : limitOf t o ≤ maxPrice
+
+closing-limit : (codes : ℕ) (t : Turnover) → turnoverSound codes t ≡ true → closingPrice t ≤ maxPrice
+unfolding closingPrice
+closing-limit codes t e = div-le-of-le-mul (t .pieces) (omega (arith, (turnover-ok codes t e) .high))
+
+price-limit : (x : Phase) (l : Security) (codes : ℕ) (t : Turnover) (k : Kind) → turnoverSound codes t ≡ true
+    → kindSound x l t k ≡ true → priceOr (closingPrice t) k ≤ maxPrice
+unfolding priceSound
+price-limit x l codes t (kind.Kept p) h e = within-high 1 maxPrice p ((and-true ((and-true e) .1)) .0)
+price-limit x l codes t kind.Closing h e = closing-limit codes t h
+
+pub reckonable : (d : Day) (o : Order) → Orderly d → orderSound d o ≡ true → Reckonable (d .rules) (d .turnover) o
+unfolding orderSound
+reckonable d o y e =
+    let a = and-true e in
+    let b = and-true (a .1) in
+    let c = and-true (b .1) in
+    let s = o .security in
+    let participant = ltb-true (o .participant) (d .rules .participants) (a .0) in
+    let security = ltb-true s (d .rules .securities) (b .0) in
+    let currency = y .rules .currency s security in
+    record {
+      participant = omega (arith, y .rules .participants);
+      security = omega (arith, y .rules .securities);
+      currency = omega (arith, y .rules .currencies);
+      lots = within-high 1 maxLots (o .lots) (c .0);
+      lot = y .rules .lot s security;
+      price = price-limit (d .phase) (line (d .rules) s) (given d) (turnoverAt (d .turnover) s) (o .kind)
+          (y .turnovers s security) (c .1);
+    }
