@@ -1,0 +1,2 @@
+pub mod Unsound
+pub mod Opens
