@@ -1,8 +1,8 @@
 -- What holds at the head of the fill loop: from here the definition comes to the same as from the start.
-use Prim.Native.Nat.{ℕ, suc, _+_, _*_, _-_, _≤_, _<_, min}
+use Prim.Native.Nat.{ℕ, _+_, _*_, _-_, _≤_, _<_, min}
 use native.Mathlib.Omega.{arith}
 use mathlib.Core.Path.{_≡_, refl, ap, sym, _∙_, subst}
-use mathlib.Core.List.{List, [], _∷_, _++_}
+use mathlib.Core.List.{List, [], _∷_}
 use mathlib.Core.Bool.{Bool, true, false, cond}
 use lib.ListN.{length, take-append-drop}
 use borrow.Author.Tests.{leb-true, leb-false}
@@ -14,7 +14,8 @@ use Rattle.market.specs.Day.{Day, orderAt, view, withLots}
 use Rattle.market.specs.Positions.{settle}
 use Rattle.market.specs.Waiting.{takeOff}
 use Rattle.market.specs.TradeList.{tradeOf, written}
-use Rattle.market.specs.Matching.{Best, Filled, best, buyOf, fill, fits, found, lotsAt, next, prefer, priceOf, sellOf, traded, withTrade}
+use Rattle.market.specs.Matching.{Best, Filled, best, buyOf, fill, fits, found, next, prefer, priceOf, sellOf}
+use Rattle.market.specs.Matching.{traded, withTrade}
 use Rattle.market.proofs.View.{first-length}
 use Rattle.market.proofs.Waiting.{gone, stays}
 use Rattle.market.proofs.Matching.{Chosen, best-chosen}
@@ -45,7 +46,8 @@ best-lots e n (o ∷ w) =
     ap (λ (b : Best). cond (fits e o) (prefer (e .side) (priceOf o) b) (next b)) (best-lots e n w)
 
 -- the price found is that of the order found
-pub found-price : (e : Order) (w : List Order) (i p : ℕ) → best e w ≡ found i p → best e w ≡ found i (priceOf (orderAt w i))
+pub found-price : (e : Order) (w : List Order) (i p : ℕ) → best e w ≡ found i p
+    → best e w ≡ found i (priceOf (orderAt w i))
 found-price e w i p h =
     let c = subst (λ (b : Best). Chosen e w b) h (best-chosen e w) in
     h ∙ ap (λ (q : ℕ). found i q) (c .2)

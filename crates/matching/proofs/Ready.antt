@@ -1,5 +1,5 @@
 -- Why no step of a trade goes below zero or past 64 bits.
-use Prim.Native.Nat.{ℕ, zero, suc, _+_, _-_, _≤_, _<_}
+use Prim.Native.Nat.{ℕ, zero, suc, _-_, _≤_, _<_}
 use native.Mathlib.Omega.{arith}
 use mathlib.Core.Path.{_≡_, refl, ap, sym, _∙_, subst}
 use mathlib.Core.List.{List, [], _∷_, _++_}
@@ -12,7 +12,8 @@ use Rattle.market.specs.declared.Side.{Side}
 use Rattle.market.specs.declared.Side.the-variants.{Buy, Sell}
 use Rattle.market.specs.declared.Turnover.{Turnover}
 use Rattle.market.specs.Limits.{maxCodes, maxPrice, moneyLimit}
-use Rattle.market.specs.Day.{Asset, Day, Money, Pieces, Rules, currencyOf, line, noOrder, orderAt, place, position, withLots}
+use Rattle.market.specs.Day.{Asset, Day, Money, Pieces, Rules, currencyOf, line, noOrder, orderAt, place, position}
+use Rattle.market.specs.Day.{withLots}
 use Rattle.market.specs.Needs.{assetOf, columnOf, limitOf, need, needAt, piecesOf, sumFor}
 use Rattle.market.specs.Positions.{fall, total, totalAt}
 use Rattle.market.specs.Matching.{buyOf, found, ifBuy, lotsAt, opposite, reaches, sellOf, traded}

@@ -9,11 +9,14 @@ use lib.Seq.{take-suc, take-suc-set, drop-set-lt, getD-drop, drop-drop, length-t
 use Rattle.market.specs.Tests.{removeAt}
 
 module _ {A : Type 0} where
-  pub remove-take : (l : List A) (i : ℕ) → removeAt (take (suc i) l) i ≡ take i l
-  remove-take [] zero = refl
-  remove-take [] (suc i) = refl
-  remove-take (x ∷ l) zero = refl
-  remove-take (x ∷ l) (suc i) = ap (λ (r : List A). x ∷ r) (remove-take l i)
+  pub remove-start : (l : List A) (i : ℕ) → take i l ≡ removeAt (take (i + 1) l) i
+  remove-start l i = sym (ap (λ (k : ℕ). removeAt (take k l) i) (add-one i) ∙ remove-take l i)
+    where
+      remove-take : (l : List A) (i : ℕ) → removeAt (take (suc i) l) i ≡ take i l
+      remove-take [] zero = refl
+      remove-take [] (suc i) = refl
+      remove-take (x ∷ l) zero = refl
+      remove-take (x ∷ l) (suc i) = ap (λ (r : List A). x ∷ r) (remove-take l i)
 
   remove-last : (l : List A) (i : ℕ) (x : A) → i < length l → removeAt (l ++ (x ∷ [])) i ≡ removeAt l i ++ (x ∷ [])
   remove-last [] i x h = absurd (omega arith)

@@ -1,22 +1,24 @@
 -- One trade on the day: amounts stay within the limit, and the parts that code reckons make up the definition's day.
-use Prim.Native.Nat.{ℕ, zero, suc, _≤_, _<_}
-use native.Mathlib.Omega.{arith}
-use mathlib.Core.Path.{_≡_, refl, ap, sym, _∙_}
+use Prim.Native.Nat.{ℕ, zero, suc, _≤_}
+use mathlib.Core.Path.{_≡_, ap, sym, _∙_}
 use mathlib.Core.List.{List, [], _∷_}
 use lib.ListN.{set}
 use Rattle.market.specs.declared.Order.{Order}
 use Rattle.market.specs.declared.Position.{Position}
+use Rattle.market.specs.declared.State.{State}
 use Rattle.market.specs.declared.Turnover.{Turnover}
-use Rattle.market.specs.Day.{Day, currencyOf, line, place, position, withMoney, withPieces, withTurnover, withWaiting}
+use Rattle.market.specs.Day.{Day, currencyOf, line, place, position, view, withMoney, withPieces, withTurnover}
+use Rattle.market.specs.Day.{withWaiting}
 use Rattle.market.specs.Needs.{piecesOf, placeFor, sumFor}
 use Rattle.market.specs.Positions.{change, counted, fall, moneySettled, pay, piecesSettled, receive, settle}
 use Rattle.market.specs.Waiting.{takeOff}
-use Rattle.market.specs.Matching.{traded}
+use Rattle.market.specs.Matching.{buyOf, priceOf, sellOf, traded}
 use Rattle.market.proofs.Needs.{fall-sells}
-use Rattle.matching.specs.Trading.{Settles}
+use Rattle.matching.specs.Trading.{Settles, Tradable, TradeDone, TradeReady, waitingAt}
+use Rattle.matching.specs.Written.{tradeIn, tradeWritten}
 
-pub free-within : (l : List Position) (i j : ℕ) (p : Position) (limit : ℕ) → (position l j) .free ≤ limit → p .free ≤ limit
-    → (position (set l i p) j) .free ≤ limit
+pub free-within : (l : List Position) (i j : ℕ) (p : Position) (limit : ℕ) → (position l j) .free ≤ limit
+    → p .free ≤ limit → (position (set l i p) j) .free ≤ limit
 free-within [] i j p limit h q = h
 free-within (x ∷ l) zero zero p limit h q = q
 free-within (x ∷ l) zero (suc j) p limit h q = h
@@ -61,3 +63,14 @@ pub day-traded : (d : Day) (b s : Order) (i p n : ℕ) (q : Day) (t : List Turno
     → withWaiting (withTurnover q t) w ≡ traded d b s i p n
 unfolding traded
 day-traded d b s i p n q t w eq et ew = rw (eq, et, ew)
+
+-- the entry's trade with the order at place i: b is its buy, a its sell, p its price
+module _ {s : State} {e : Order} {i n k : ℕ} {l : List ℕ} (ready : TradeReady s e i n k l) {b a : Order} {p : ℕ}
+    (buy : b ≡ buyOf e (waitingAt s i)) (sell : a ≡ sellOf e (waitingAt s i))
+    (price : p ≡ priceOf (waitingAt s i)) where
+  pub trade-ready : Tradable (view s) b a i p n
+  trade-ready = rw (buy, sell, price) (ready .trade)
+
+  pub trade-done : {l′ : List ℕ} {s′ : State} → view s′ ≡ traded (view s) b a i p n
+      → l′ ≡ tradeWritten k (tradeIn (line ((view s) .rules) (b .security)) b a p n) l → TradeDone s e i n k l l′ s′
+  trade-done day list = record { day = day ∙ rw (buy, sell, price); list = list ∙ rw (buy, sell, price) }

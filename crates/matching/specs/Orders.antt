@@ -4,7 +4,7 @@ use mathlib.Core.Path.{_≡_}
 use mathlib.Core.List.{List}
 use Rattle.market.specs.declared.Order.{Order}
 use Rattle.market.specs.Limits.{maxLots, maxWaiting}
-use Rattle.market.specs.Day.{Day, firstOrders}
+use Rattle.market.specs.Day.{firstOrders}
 use Rattle.market.specs.Waiting.{takeOff}
 use Rattle.market.proofs.Lists.{All}
 use Rattle.matching.specs.declared.Orders.{Orders}

@@ -1,4 +1,4 @@
--- What settlement asks of the positions.
+-- What settlement asks of positions, and of Q and T.
 use Prim.Native.Nat.{ℕ, _+_, _*_, _≤_, _<_}
 use mathlib.Core.List.{List}
 use Rattle.market.specs.declared.Position.{Position}

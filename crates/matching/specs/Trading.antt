@@ -54,7 +54,7 @@ pub record Settles (d : Day) (b s : Order) (p n : ℕ) : Type 0 where
       (piecesOf (line (d .rules) (b .security)) n) (piecesOf (line (d .rules) (b .security)) n)
       (place (b .participant) (b .security))
 
--- so that the trade counts, where one of the two waits at place i
+-- and the trade can count; one of the two waits at place i
 pub record Tradable (d : Day) (b s : Order) (i p n : ℕ) : Type 0 where
   pub settles : Settles d b s p n
   pub waits : i < length (d .waiting)

@@ -9,8 +9,8 @@ use Rattle.market.specs.Needs.{sumFor}
 use Rattle.market.specs.TradeList.{Trade, numbers}
 
 -- the trade of n lots at price p between a buy b and a sell s of a security with this line
-abbrev pub tradeAt : Security → Order → Order → ℕ → ℕ → Trade
-tradeAt l b s p n = record {
+abbrev pub tradeIn : Security → Order → Order → ℕ → ℕ → Trade
+tradeIn l b s p n = record {
   buyCode = b .code;
   sellCode = s .code;
   buyer = b .participant;

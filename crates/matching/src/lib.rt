@@ -18,13 +18,14 @@ ghost use Rattle.market.specs.Tests.{removeAt};
 ghost use Rattle.market.specs.Day.{firstOrders, turnoverAt, view, withLots};
 ghost use Rattle.market.specs.Needs.{priceOr};
 ghost use Rattle.market.specs.Positions.{change, counting, pay, receive, settle as daySettled, total};
-ghost use Rattle.market.specs.Matching.{better as isBetter, fits as isFit, fitting, fittingLots, ifBuy, opposite as areOpposite, reaches as doesReach, traded as dayTraded};
-ghost use Rattle.matching.specs.Orders.{FewLots, TakenOff};
-ghost use Rattle.matching.specs.Payable.{Countable, Payable};
+ghost use Rattle.market.specs.Matching.{better as isBetter, fits as doesFit, fitting, fittingLots, ifBuy};
+ghost use Rattle.market.specs.Matching.{opposite as areOpposite, reaches as doesReach, traded as dayTraded};
 ghost use Rattle.matching.specs.Search.{bestOf, preferLater};
+ghost use Rattle.matching.specs.Orders.{FewLots, TakenOff};
+ghost use Rattle.matching.specs.Written.{tradeIn, tradeWritten};
+ghost use Rattle.matching.specs.Payable.{Countable, Payable};
 ghost use Rattle.matching.specs.Trading.{Reckoned, Settles, Tradable, TradeDone, TradeReady, fallWith};
 ghost use Rattle.matching.specs.Filling.{Fills, InFlight};
-ghost use Rattle.matching.specs.Written.{tradeAt, tradeWritten};
 
 // Buy code, sell code, buyer, seller, security, price, lots, sum.
 pub const NUMBERS_PER_TRADE: usize = 8;
@@ -84,7 +85,7 @@ fn reaches(side: Side, own: Kind, other: Kind) -> bool
 
 // Is the waiting order a counter order that fits the entry?
 pub fn fits(e: Order, o: Order) -> bool
-    ensures { λ r. ⌜ r ≡ isFit e o ⌝ }
+    ensures { λ r. ⌜ r ≡ doesFit e o ⌝ }
 {
     if e.security != o.security {
         return false;
@@ -119,7 +120,7 @@ pub fn price_of(kind: Kind) -> u64
     }
 }
 
-// Keeps what was found unless the order at place `at` fits and is strictly better.
+// What was found stays unless the order at place `at` fits and is strictly better.
 pub fn preferred(e: Order, best: Found, o: Order, at: usize) -> Found
     ensures { λ r. ⌜ bestOf r ≡ preferLater e (bestOf best) o at ⌝ }
 {
@@ -281,6 +282,7 @@ pub fn settle(s: State, buy: Order, sell: Order, price: u64, lots: u64) -> State
     let taker = place_of(buy.participant, buy.security);
     let money = s.money;
     let new_money = settled(money, payer, fall, sum, payee);
+    // The seller's need falls by the pieces that he sells.
     let held = s.pieces;
     let new_pieces = settled(held, holder, pieces, pieces, taker);
     let mut next = s;
@@ -323,7 +325,7 @@ pub fn write_trade(
 )
     requires { ⌜ numbersPerTrade * at + numbersPerTrade ≤ length (now trades) ⌝ }
     requires { ⌜ (line .lot ≤ maxLot) × (price ≤ maxPrice) × (lots ≤ maxLots) ⌝ }
-    ensures { λ _. ⌜ now (trades .exit) ≡ tradeWritten at (tradeAt line buy sell price lots) (now (trades .entry)) ⌝ }
+    ensures { λ _. ⌜ now (trades .exit) ≡ tradeWritten at (tradeIn line buy sell price lots) (now (trades .entry)) ⌝ }
 {
     let sum = sum_for(line, price, lots);
     let first = at * NUMBERS_PER_TRADE;
@@ -337,6 +339,7 @@ pub fn write_trade(
     trades[first + 7] = sum;
 }
 
+// A trade is of as many lots as both orders have.
 pub fn lesser(a: u64, b: u64) -> u64
     ensures { λ r. ⌜ r ≡ min a b ⌝ }
 {
@@ -371,8 +374,7 @@ fn trade_with(s: State, e: Order, at: usize, lots: u64, trades: &mut [u64], numb
     traded(s, buy, sell, at, price, lots)
 }
 
-// Best price comes first, then lowest code. Matching ends at the first of: the entry is full, or no waiting counter
-// order fits.
+// The fill of an entry whose need is blocked.
 pub fn fill(s: State, e: Order, trades: &mut [u64]) -> Filled
     requires { ⌜ (InFlight (view s) e) × (numbersPerTrade * s .count ≤ length (now trades)) ⌝ }
     ensures { λ r. ⌜ Fills s e (now (trades .entry)) (now (trades .exit)) r ⌝ }
@@ -380,7 +382,9 @@ pub fn fill(s: State, e: Order, trades: &mut [u64]) -> Filled
     let mut state = s;
     let mut left = e.lots;
     let mut made: usize = 0;
+    // Matching ends at the first of: the entry is full, or no waiting counter order fits.
     'fill: while 0 < left {
+        // Best price comes first, then lowest code: the list is by rising code.
         let count = state.count;
         let mut best = Found::Nothing;
         let mut i: usize = 0;

@@ -45,7 +45,8 @@ orderly-holds d e =
     record {
       count = leb-true (length (d .waiting)) maxWaiting (a .0);
       rules = rules-ok (d .rules) (both (counts .0) (table .0));
-      turnovers = below-all (d .rules .securities) (λ s. turnoverSound (given d) (turnoverAt (d .turnover) s)) (turnovers .0);
+      turnovers = below-all (d .rules .securities) (λ s. turnoverSound (given d) (turnoverAt (d .turnover) s))
+          (turnovers .0);
       orders = (and-true (turnovers .1)) .1;
     }
 

@@ -30,7 +30,8 @@ ghost use mathlib.Core.Path.{_≡_};
 ghost use mathlib.Core.Bool.{true};
 ghost use Prim.Native.Nat.{_+_, _<_, _≤_};
 ghost use lib.ListN.{getD};
-ghost use Rattle.market.specs.Limits.{columns as allColumns, maxCodes, maxParticipants, maxSecurities, maxWaiting, places};
+ghost use Rattle.market.specs.Limits.{columns as allColumns, maxCodes, maxParticipants, maxSecurities};
+ghost use Rattle.market.specs.Limits.{maxWaiting, places};
 ghost use Rattle.market.specs.Tests.{_=?_, _and_, _≤?_, allBelow, allOf, known};
 ghost use Rattle.market.specs.Day.{firstOrders, noSecurity, place, position, turnoverAt, view};
 ghost use Rattle.market.specs.Codes.{rising as isRising};
@@ -159,7 +160,8 @@ fn order_sound(
     order: Order,
 ) -> bool
     requires { ⌜ 0 < line .step ⌝ }
-    ensures { λ r. ⌜ r ≡ known (order .participant) participants and lotsSound (order .lots) and kindSound phase line turnover (order .kind) ⌝ }
+    ensures { λ r. ⌜ r ≡ known (order .participant) participants and lotsSound (order .lots)
+        and kindSound phase line turnover (order .kind) ⌝ }
 {
     if participants <= order.participant {
         return false;
@@ -235,7 +237,8 @@ fn blocked_sound(
     needs: [u64; 512],
 ) -> bool
     requires { ⌜ (participants ≤ maxParticipants) × (columns ≤ allColumns) × (first ≤ places) ⌝ }
-    ensures { λ r. ⌜ r ≡ allBelow participants (λ p. allBelow columns (λ c. (position positions (place p c)) .blocked =? getD needs (first + place p c) 0)) ⌝ }
+    ensures { λ r. ⌜ r ≡ allBelow participants (λ p. allBelow columns (λ c.
+        (position positions (place p c)) .blocked =? getD needs (first + place p c) 0)) ⌝ }
 {
     let end = participants * COLUMNS;
     let mut j: u64 = 0;

@@ -1,15 +1,13 @@
+-- `matching::fitting_lots` meets its contract: the sum is that of the orders passed, at most 10,000 lots each.
 use Prim.Native.Nat.{_*_, _-_, _≤_}
 use native.Mathlib.Omega.{arith}
-use mathlib.Core.Path.{_≡_, refl, ap, _∙_}
+use mathlib.Core.Path.{_∙_, _≡_, ap, refl}
 use Rattle.market.specs.Limits.{maxLots}
 use Rattle.market.specs.Day.{firstOrders}
 use Rattle.market.specs.Matching.{fitting}
 use Rattle.matching.proofs.First.{fitting-few, fitting-next}
 use Rattle.matching.proofs.fitting_lots.Statement.{statement}
 use Rattle.matching.proofs.fitting_lots.Tie as tie
-use Rattle.matching.proofs.fitting_lots.Reads as reads
-use Rattle.matching.proofs.fitting_lots.Lts as lts
-use Rattle.matching.proofs.lots_fitting.Reads as lots-fitting-reads
 
 abbrev Inv-loop : tie.InvT-loop
 Inv-loop e orders count sum₀ i₀ sum i =
@@ -18,24 +16,19 @@ Inv-loop e orders count sum₀ i₀ sum i =
 abbrev μ-loop : tie.MeasureT-loop
 μ-loop e orders count sum₀ i₀ sum i = count - i
 
--- src/lib.rt:240:5
 loop-holds : tie.Need-loop-holds Inv-loop μ-loop
 unfolding fitting
 loop-holds c = (omega arith, omega arith, refl)
 
--- src/lib.rt:241:17
 mul-o : tie.Need-mul-o Inv-loop μ-loop
 mul-o c = omega arith
 
--- src/lib.rt:241:17
 array-copy-out-o : tie.Need-array-copy-out-o Inv-loop μ-loop
 array-copy-out-o c = omega arith
 
--- src/lib.rt:242:16
 lots-fitting-requires : tie.Need-lots-fitting-requires Inv-loop μ-loop
 lots-fitting-requires c κs = tt
 
--- src/lib.rt:242:9
 few : (c : tie.After-lots-fitting Inv-loop μ-loop) → c .lots-fitting .result ≤ maxLots
 few c =
     let k = c .before .before in
@@ -50,15 +43,12 @@ few c =
 add-sum : tie.Need-add-sum Inv-loop μ-loop
 add-sum c = omega (arith, few c)
 
--- src/lib.rt:243:9
 add-i : tie.Need-add-i Inv-loop μ-loop
 add-i c = omega arith
 
--- src/lib.rt:240:5
 loop-less : tie.Need-loop-less Inv-loop μ-loop
 loop-less c = omega arith
 
--- src/lib.rt:240:5
 loop-again : tie.Need-loop-again Inv-loop μ-loop
 loop-again c =
     let a = c .before .before .before .before .before .args in
@@ -68,7 +58,6 @@ loop-again c =
       omega (arith, fitting-next (a .e) (l .i) (a .s .orders), l .inv .2, c .lots-fitting .ensures),
     )
 
--- src/lib.rt:232:1
 returns : tie.Need-returns Inv-loop μ-loop
 returns c =
     let a = c .before .before .before .args in

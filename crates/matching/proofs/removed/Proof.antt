@@ -1,17 +1,15 @@
-use Rattle.market.proofs.View.{first-take}
-use Prim.Native.Nat.{_≤_, _-_, _+_}
-use native.Mathlib.Numerals.{add-one}
+-- `matching::removed` meets its contract: each later order moves a place forward.
+use Prim.Native.Nat.{_+_, _-_, _≤_}
 use native.Mathlib.Omega.{arith}
-use mathlib.Core.Path.{_≡_, refl, sym, ap, _∙_}
-use lib.ListN.{length, take, drop, length-set}
+use mathlib.Core.Path.{_∙_, _≡_, ap, refl, sym}
+use lib.ListN.{drop, length, length-set, take}
 use borrow.Author.Needs.{needs}
 use Rattle.market.specs.Limits.{maxWaiting}
 use Rattle.market.specs.Tests.{removeAt}
-use Rattle.matching.proofs.Removal.{remove-take, shift}
+use Rattle.market.proofs.View.{first-take}
+use Rattle.matching.proofs.Removal.{remove-start, shift}
 use Rattle.matching.proofs.removed.Statement.{statement}
 use Rattle.matching.proofs.removed.Tie as tie
-use Rattle.matching.proofs.removed.Reads as reads
-use Rattle.matching.proofs.removed.Lts as lts
 
 abbrev Inv-loop : tie.InvT-loop
 Inv-loop count at next₀ i₀ last next i =
@@ -23,57 +21,42 @@ Inv-loop count at next₀ i₀ last next i =
 abbrev μ-loop : tie.MeasureT-loop
 μ-loop count at next₀ i₀ last next i = last - i
 
--- src/lib.rt:138:16
 sub-last : tie.Need-sub-last Inv-loop μ-loop
 sub-last c = omega arith
 
--- src/lib.rt:139:5
 loop-holds : tie.Need-loop-holds Inv-loop μ-loop
-loop-holds c = (
-  omega arith,
-  search needs,
-  sym (ap (λ k. removeAt (take k (c .args .orders)) (c .args .at)) (add-one (c .args .at)) ∙ remove-take (c .args .orders) (c .args .at)),
-  refl,
-)
+loop-holds c = (omega arith, search needs, remove-start (c .args .orders) (c .args .at), refl)
 
--- src/lib.rt:140:22
 add-o : tie.Need-add-o Inv-loop μ-loop
 add-o c = omega arith
 
--- src/lib.rt:140:17
 mul-o : tie.Need-mul-o Inv-loop μ-loop
 mul-o c = omega arith
 
--- src/lib.rt:140:17
 array-copy-out-o : tie.Need-array-copy-out-o Inv-loop μ-loop
 array-copy-out-o c = omega arith
 
--- src/lib.rt:141:9
 mul-next : tie.Need-mul-next Inv-loop μ-loop
 mul-next c = omega arith
 
--- src/lib.rt:141:9
 array-set-from-next : tie.Need-array-set-from-next Inv-loop μ-loop
 array-set-from-next c = omega arith
 
--- src/lib.rt:142:9
 add-i : tie.Need-add-i Inv-loop μ-loop
 add-i c = omega arith
 
--- src/lib.rt:139:5
 loop-less : tie.Need-loop-less Inv-loop μ-loop
 loop-less c = omega arith
 
--- src/lib.rt:139:5
 loop-again : tie.Need-loop-again Inv-loop μ-loop
 loop-again c =
     let a = c .before .before .before .args in
     let l = c .before .before .loop in
     let start : length (a .orders) ≡ maxWaiting = search needs in
-    let s = shift (a .orders) (l .next) (a .at) (l .i) _ (omega arith) (omega arith) (omega arith) (l .inv .2) (l .inv .3) in
+    let s = shift (a .orders) (l .next) (a .at) (l .i) _ (omega arith) (omega arith) (omega arith) (l .inv .2)
+    (l .inv .3) in
     (omega arith, simp length-set (omega arith), s .0, s .1)
 
--- src/lib.rt:132:1
 returns : tie.Need-returns Inv-loop μ-loop
 returns c =
     let a = c .before .before .args in

@@ -1,62 +1,44 @@
+-- `matching::settle` meets its contract: the places, the fall and the amounts are the definition's.
 use mathlib.Core.Path.{_∙_}
+use borrow.Author.Needs.{needs}
 use Rattle.market.specs.Day.{view}
 use Rattle.matching.proofs.Settling.{day-settled}
-use borrow.Author.Needs.{needs}
 use Rattle.matching.proofs.settle.Statement.{statement}
 use Rattle.matching.proofs.settle.Tie as tie
-use Rattle.matching.proofs.settle.Reads as reads
-use Rattle.matching.proofs.settle.Lts as lts
-use Rattle.amounts.proofs.pieces_of.Reads as pieces-of-reads
-use Rattle.amounts.proofs.place_of.Reads as place-of-reads
-use Rattle.amounts.proofs.sum_for.Reads as sum-for-reads
-use Rattle.matching.proofs.fall_of.Reads as fall-of-reads
-use Rattle.matching.proofs.settled.Reads as settled-reads
 
--- src/lib.rt:266:16
 mul-line : tie.Need-mul-line
 mul-line c = search needs
 
--- src/lib.rt:266:16
 array-copy-out-line : tie.Need-array-copy-out-line
 array-copy-out-line c = search needs
 
--- src/lib.rt:268:20
 mul-turnover : tie.Need-mul-turnover
 mul-turnover c = search needs
 
--- src/lib.rt:268:20
 array-copy-out-turnover : tie.Need-array-copy-out-turnover
 array-copy-out-turnover c = search needs
 
--- src/lib.rt:269:9
 fall-of-requires : tie.Need-fall-of-requires
 fall-of-requires c κs = search needs
 
--- src/lib.rt:270:9
 sum-for-requires : tie.Need-sum-for-requires
 sum-for-requires c κs = search needs
 
--- src/lib.rt:271:9
 pieces-of-requires : tie.Need-pieces-of-requires
 pieces-of-requires c κs = search needs
 
--- src/lib.rt:272:9
 place-of-requires : tie.Need-place-of-requires
 place-of-requires c κs = search needs
 
--- src/lib.rt:273:9
 place-of-requires-2 : tie.Need-place-of-requires-2
 place-of-requires-2 c κs = search needs
 
--- src/lib.rt:274:9
 place-of-requires-3 : tie.Need-place-of-requires-3
 place-of-requires-3 c κs = search needs
 
--- src/lib.rt:275:9
 place-of-requires-4 : tie.Need-place-of-requires-4
 place-of-requires-4 c κs = search needs
 
--- src/lib.rt:277:9
 settled-requires : tie.Need-settled-requires
 settled-requires c κs =
     let k = c .before .before .before .before .before .before in
@@ -67,7 +49,6 @@ settled-requires c κs =
       k .sum-for .ensures,
     ) (k .before .before .before .before .before .before .pre .money)
 
--- src/lib.rt:279:9
 settled-requires-2 : tie.Need-settled-requires-2
 settled-requires-2 c κs =
     let k = c .before .before .before in
@@ -75,7 +56,6 @@ settled-requires-2 c κs =
     rw (k .before .place-of3 .ensures, k .place-of4 .ensures, p .pieces-of .ensures)
     (p .before .before .before .before .before .before .before .pre .pieces)
 
--- src/lib.rt:260:1
 returns : tie.Need-returns
 returns c =
     let k = c .before .before .before .before in

@@ -7,16 +7,17 @@ use Prim.Native.Nat.{_+_, _-_, _*_}
 use lib.ListN.{getD}
 use Rattle.market.specs.Limits.{columns}
 use Rattle.market.specs.Tests.{_=?_}
-use Rattle.soundness.proofs.Loops as loops
 use Rattle.market.specs.Day.{position}
+use Rattle.soundness.proofs.Loops as loops
 use Rattle.soundness.proofs.blocked_sound.Statement.{statement}
 use Rattle.soundness.proofs.blocked_sound.Tie as tie
 
 abbrev Inv-loop : tie.InvT-loop
-Inv-loop participants columns first positions needs end j₀ j = loops.Placed (λ k. (position positions k) .blocked =? getD needs (first + k) 0) participants columns j
+Inv-loop participants columns first positions needs end j₀ j =
+    loops.Placed (λ k. (position positions k) .blocked =? getD needs (first + k) 0) participants columns j
 
 abbrev μ-loop : tie.MeasureT-loop
-μ-loop participants columns first positions needs end j₀ j = participants * 16 - j
+μ-loop participants columns first positions needs end j₀ j = end - j
 
 mul-end : tie.Need-mul-end Inv-loop μ-loop
 mul-end c = search needs

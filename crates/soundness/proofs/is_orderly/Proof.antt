@@ -1,14 +1,13 @@
--- `soundness::is_orderly` meets its contract: each part is false where its test fails, and true where the next is asked.
+-- `soundness::is_orderly` meets its contract: a part is false where its test fails, true where the next is asked.
 use borrow.Author.Needs.{needs}
 use borrow.Author.Tests.{le-leb, lt-leb}
 use Rattle.market.specs.Tests.{_and_}
-use Rattle.amounts.proofs.Answers.{fails, holds}
 use Rattle.market.specs.Sound.{rulesSound}
 use Rattle.market.proofs.Logic.{both}
 use Rattle.market.proofs.View.{first-length}
+use Rattle.amounts.proofs.Answers.{fails, holds}
 use Rattle.soundness.specs.Parts.{orderly}
 use Rattle.soundness.proofs.Parts.{few-securities}
-use borrow.Author.Needs.{needs}
 use Rattle.soundness.proofs.is_orderly.Statement.{statement}
 use Rattle.soundness.proofs.is_orderly.Tie as tie
 
@@ -34,7 +33,12 @@ unfolding orderly _and_
 returns-3 c =
     let two = c .before .before in
     let one = two .before .before in
-    rw (first-length, le-leb _ _ (one .if1 .left), holds (two .before .counts-sound .ensures) (two .if2 .left), fails (c .before .table-sound .ensures) (c .if3 .taken))
+    rw (
+      first-length,
+      le-leb _ _ (one .if1 .left),
+      holds (two .before .counts-sound .ensures) (two .if2 .left),
+      fails (c .before .table-sound .ensures) (c .if3 .taken),
+    )
 
 returns-4 : tie.Need-returns-4
 unfolding orderly _and_
@@ -42,7 +46,13 @@ returns-4 c =
     let three = c .before .before in
     let two = three .before .before in
     let one = two .before .before in
-    rw (first-length, le-leb _ _ (one .if1 .left), holds (two .before .counts-sound .ensures) (two .if2 .left), holds (three .before .table-sound .ensures) (three .if3 .left), lt-leb _ _ (c .if4 .taken))
+    rw (
+      first-length,
+      le-leb _ _ (one .if1 .left),
+      holds (two .before .counts-sound .ensures) (two .if2 .left),
+      holds (three .before .table-sound .ensures) (three .if3 .left),
+      lt-leb _ _ (c .if4 .taken),
+    )
 
 turnovers-sound-requires : tie.Need-turnovers-sound-requires
 turnovers-sound-requires c κs =
@@ -56,7 +66,14 @@ returns-5 c =
     let three = four .before .before in
     let two = three .before .before in
     let one = two .before .before in
-    rw (first-length, le-leb _ _ (one .if1 .left), holds (two .before .counts-sound .ensures) (two .if2 .left), holds (three .before .table-sound .ensures) (three .if3 .left), le-leb _ _ (four .if4 .left), fails (c .before .turnovers-sound .ensures) (c .if5 .taken))
+    rw (
+      first-length,
+      le-leb _ _ (one .if1 .left),
+      holds (two .before .counts-sound .ensures) (two .if2 .left),
+      holds (three .before .table-sound .ensures) (three .if3 .left),
+      le-leb _ _ (four .if4 .left),
+      fails (c .before .turnovers-sound .ensures) (c .if5 .taken),
+    )
 
 rising-requires : tie.Need-rising-requires
 rising-requires c κs = search needs
@@ -69,14 +86,23 @@ returns-6 c =
     let three = four .before .before in
     let two = three .before .before in
     let one = two .before .before in
-    rw (first-length, le-leb _ _ (one .if1 .left), holds (two .before .counts-sound .ensures) (two .if2 .left), holds (three .before .table-sound .ensures) (three .if3 .left), le-leb _ _ (four .if4 .left), holds (five .before .turnovers-sound .ensures) (five .if5 .left), fails (c .before .rising .ensures) (c .if6 .taken))
+    rw (
+      first-length,
+      le-leb _ _ (one .if1 .left),
+      holds (two .before .counts-sound .ensures) (two .if2 .left),
+      holds (three .before .table-sound .ensures) (three .if3 .left),
+      le-leb _ _ (four .if4 .left),
+      holds (five .before .turnovers-sound .ensures) (five .if5 .left),
+      fails (c .before .rising .ensures) (c .if6 .taken),
+    )
 
 orders-sound-requires : tie.Need-orders-sound-requires
 unfolding rulesSound
 orders-sound-requires c κs =
     let three = c .before .before .before .before .before .before in
     let two = three .before .before in (
-      both (holds (two .before .counts-sound .ensures) (two .if2 .left)) (holds (three .before .table-sound .ensures) (three .if3 .left)),
+      both (holds (two .before .counts-sound .ensures) (two .if2 .left))
+          (holds (three .before .table-sound .ensures) (three .if3 .left)),
       two .before .before .if1 .left,
     )
 
@@ -89,7 +115,15 @@ returns-7 c =
     let three = four .before .before in
     let two = three .before .before in
     let one = two .before .before in
-    rw (first-length, le-leb _ _ (one .if1 .left), holds (two .before .counts-sound .ensures) (two .if2 .left), holds (three .before .table-sound .ensures) (three .if3 .left), le-leb _ _ (four .if4 .left), holds (five .before .turnovers-sound .ensures) (five .if5 .left), holds (six .before .rising .ensures) (six .if6 .left)) (c .orders-sound .ensures)
+    rw (
+      first-length,
+      le-leb _ _ (one .if1 .left),
+      holds (two .before .counts-sound .ensures) (two .if2 .left),
+      holds (three .before .table-sound .ensures) (three .if3 .left),
+      le-leb _ _ (four .if4 .left),
+      holds (five .before .turnovers-sound .ensures) (five .if5 .left),
+      holds (six .before .rising .ensures) (six .if6 .left),
+    ) (c .orders-sound .ensures)
 
 pub is-orderly-spec : {M : Type 1} → statement M
 is-orderly-spec =

@@ -1,10 +1,9 @@
 -- `soundness::is_sound` meets its contract: sound is orderly and covered.
 use borrow.Author.Needs.{needs}
 use Rattle.market.specs.Tests.{_and_}
-use Rattle.amounts.proofs.Answers.{fails, holds}
 use Rattle.market.specs.Day.{view}
+use Rattle.amounts.proofs.Answers.{fails, holds}
 use Rattle.soundness.proofs.Parts.{two-parts}
-use borrow.Author.Needs.{needs}
 use Rattle.soundness.proofs.is_sound.Statement.{statement}
 use Rattle.soundness.proofs.is_sound.Tie as tie
 
@@ -22,7 +21,10 @@ returns-2 : tie.Need-returns-2
 unfolding _and_
 returns-2 c =
     let one = c .before in
-    rw (two-parts (view (one .before .before .args .s)), holds (one .before .is-orderly .ensures) (one .if1 .left)) (c .is-covered .ensures)
+    rw (
+      two-parts (view (one .before .before .args .s)),
+      holds (one .before .is-orderly .ensures) (one .if1 .left),
+    ) (c .is-covered .ensures)
 
 pub is-sound-spec : {M : Type 1} → statement M
 is-sound-spec = tie.close (tie.spec is-orderly-requires returns is-covered-requires returns-2)

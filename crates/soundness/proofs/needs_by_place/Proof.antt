@@ -2,12 +2,12 @@
 use borrow.Author.Needs.{needs}
 use native.Mathlib.Omega.{arith}
 use Prim.Native.Nat.{_≤_, _<_, _+_, _-_}
-use Rattle.market.specs.Limits.{places}
+use Rattle.market.specs.Limits.{maxWaiting, places}
 use Rattle.market.specs.Day.{view, orderAt}
 use Rattle.market.proofs.View.{first-length}
+use Rattle.market.specs.Sound.{orderSound}
 use Rattle.soundness.proofs.Parts.{Orderly, Reckonable, each-waiting, orderly-holds, reckonable}
 use Rattle.soundness.proofs.Needs.{Added, added-all, added-next, added-none, need-top, place-inside}
-use Rattle.market.specs.Sound.{orderSound}
 use Rattle.soundness.proofs.needs_by_place.Statement.{statement}
 use Rattle.soundness.proofs.needs_by_place.Tie as tie
 
@@ -20,8 +20,8 @@ abbrev μ-loop : tie.MeasureT-loop
 orderly : (c : tie.Start Inv-loop μ-loop) → Orderly (view (c .args .t1))
 orderly c = orderly-holds (view (c .args .t1)) (c .pre)
 
--- no more than 128 orders wait
-few : (c : tie.Start Inv-loop μ-loop) → c .args .t1 .count ≤ 128
+-- few orders wait, and the need of each can be reckoned
+few : (c : tie.Start Inv-loop μ-loop) → c .args .t1 .count ≤ maxWaiting
 few c = let size = first-length (c .args .t1 .count) (c .args .t1 .orders) in omega (arith, (orderly c) .count)
 
 good : (c : tie.In-loop Inv-loop μ-loop)
@@ -98,8 +98,8 @@ loop-again : tie.Need-loop-again Inv-loop μ-loop
 loop-again c =
     let b = c .before in
     let in-loop = b .before .before .before .before in
-    added-next _ _ _ _ _ _ (in-loop .before .loop .inv) (b .need-place .result) (c .need-of .result) (omega arith) (good in-loop)
-    (b .need-place .ensures) (c .need-of .ensures)
+    added-next _ _ _ _ _ _ (in-loop .before .loop .inv) (b .need-place .result) (c .need-of .result) (omega arith)
+    (good in-loop) (b .need-place .ensures) (c .need-of .ensures)
 
 returns : tie.Need-returns Inv-loop μ-loop
 returns c = added-all _ _ _ _ _ _ (c .before .loop .inv) (omega arith)

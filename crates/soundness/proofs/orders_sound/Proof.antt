@@ -3,11 +3,11 @@ use borrow.Author.Needs.{needs}
 use native.Mathlib.Omega.{arith}
 use Prim.Native.Nat.{_-_}
 use mathlib.Core.Path.{refl, _∙_}
-use Rattle.amounts.proofs.Answers.{fails, holds}
-use Rattle.soundness.proofs.Loops as loops
 use Rattle.market.specs.Day.{view}
 use Rattle.market.specs.Sound.{orderSound}
 use Rattle.market.proofs.Known.{rules-ok}
+use Rattle.amounts.proofs.Answers.{fails, holds}
+use Rattle.soundness.proofs.Loops as loops
 use Rattle.soundness.proofs.Parts.{known-security, line-step, unknown-security}
 use Rattle.soundness.proofs.orders_sound.Statement.{statement}
 use Rattle.soundness.proofs.orders_sound.Tie as tie

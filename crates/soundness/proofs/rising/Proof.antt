@@ -6,14 +6,16 @@ use Prim.Native.Nat.{_≤_, _-_}
 use mathlib.Core.Path.{_≡_, refl, _∙_}
 use lib.ListN.{drop}
 use Rattle.market.specs.Tests.{_and_}
-use Rattle.soundness.proofs.Loops as loops
 use Rattle.market.specs.Day.{firstOrders}
 use Rattle.market.specs.Codes.{rising}
+use Rattle.soundness.proofs.Loops as loops
 use Rattle.soundness.proofs.rising.Statement.{statement}
 use Rattle.soundness.proofs.rising.Tie as tie
 
 abbrev Inv-loop : tie.InvT-loop
-Inv-loop codes count orders last₀ i₀ last i = (i ≤ count) × (rising 0 codes (firstOrders count orders) ≡ rising last codes (drop i (firstOrders count orders)))
+Inv-loop codes count orders last₀ i₀ last i =
+    (i ≤ count)
+    × (rising 0 codes (firstOrders count orders) ≡ rising last codes (drop i (firstOrders count orders)))
 
 abbrev μ-loop : tie.MeasureT-loop
 μ-loop codes count orders last₀ i₀ last i = count - i
@@ -32,7 +34,11 @@ unfolding rising _and_
 returns c =
     let at = c .before .before .before .before in
     let l = at .loop in
-    rw (l .inv .1, loops.waiting-at (at .before .args .count) (at .before .args .t3) (l .i) (omega arith), le-ltb _ _ (c .if1 .taken))
+    rw (
+      l .inv .1,
+      loops.waiting-at (at .before .args .count) (at .before .args .t3) (l .i) (omega arith),
+      le-ltb _ _ (c .if1 .taken),
+    )
 
 add-i : tie.Need-add-i Inv-loop μ-loop
 add-i c = search needs
@@ -46,7 +52,10 @@ loop-again c =
     let at = c .before .before .before .before in
     let l = at .loop in (
       omega arith,
-      l .inv .1 ∙ rw (loops.waiting-at (at .before .args .count) (at .before .args .t3) (l .i) (omega arith), lt-ltb _ _ (c .if1 .left)),
+      l .inv .1 ∙ rw (
+        loops.waiting-at (at .before .args .count) (at .before .args .t3) (l .i) (omega arith),
+        lt-ltb _ _ (c .if1 .left),
+      ),
     )
 
 returns-2 : tie.Need-returns-2 Inv-loop μ-loop

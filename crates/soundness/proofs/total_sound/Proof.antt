@@ -4,13 +4,14 @@ use borrow.Author.Tests.{le-leb}
 use native.Mathlib.Omega.{arith}
 use Prim.Native.Nat.{ℕ, _≤_, _-_}
 use mathlib.Core.Path.{_≡_, refl, sym, ap}
-use Rattle.soundness.proofs.Loops as loops
 use Rattle.market.specs.Positions.{totalAt}
+use Rattle.soundness.proofs.Loops as loops
 use Rattle.soundness.proofs.total_sound.Statement.{statement}
 use Rattle.soundness.proofs.total_sound.Tie as tie
 
 abbrev Inv-loop : tie.InvT-loop
-Inv-loop participants column limit positions total₀ p₀ total p = (p ≤ participants) × (total ≤ limit) × (total ≡ totalAt p positions column)
+Inv-loop participants column limit positions total₀ p₀ total p =
+    (p ≤ participants) × (total ≤ limit) × (total ≡ totalAt p positions column)
 
 abbrev μ-loop : tie.MeasureT-loop
 μ-loop participants column limit positions total₀ p₀ total p = participants - p

@@ -4,14 +4,15 @@ use native.Mathlib.Omega.{arith}
 use Prim.Native.Nat.{_-_}
 use Rattle.market.specs.Limits.{columns}
 use Rattle.market.specs.Tests.{_≤?_}
+use Rattle.market.specs.Positions.{totalAt}
 use Rattle.amounts.proofs.Answers.{fails, holds}
 use Rattle.soundness.proofs.Loops as loops
-use Rattle.market.specs.Positions.{totalAt}
 use Rattle.soundness.proofs.totals_sound.Statement.{statement}
 use Rattle.soundness.proofs.totals_sound.Tie as tie
 
 abbrev Inv-loop : tie.InvT-loop
-Inv-loop participants columns limit positions column₀ column = loops.Passed (λ k. totalAt participants positions k ≤? limit) columns column
+Inv-loop participants columns limit positions column₀ column =
+    loops.Passed (λ k. totalAt participants positions k ≤? limit) columns column
 
 abbrev μ-loop : tie.MeasureT-loop
 μ-loop participants columns limit positions column₀ column = columns - column

@@ -1,0 +1,49 @@
+// Printing for the programs that run cases: a label, then an answer or a position.
+use libc::STDOUT_FILENO;
+use market::Answer;
+use market::Position;
+
+fn number(x: u64) {
+    io::write_all(STDOUT_FILENO, b",");
+    io::print_decimal(STDOUT_FILENO, x);
+}
+
+fn end_line() {
+    io::write_all(STDOUT_FILENO, b"\n");
+}
+
+// Label, refusal, place.
+fn refusal(label: &[u8], number_of: u64, place: u64) {
+    io::write_all(STDOUT_FILENO, label);
+    number(number_of);
+    number(place);
+    io::write_all(STDOUT_FILENO, b",0,0,0,0");
+    end_line();
+}
+
+// Label, two zeros, and the registered order.
+fn done(label: &[u8], code: u64, filled: u64, left: u64, trades: u64) {
+    io::write_all(STDOUT_FILENO, label);
+    io::write_all(STDOUT_FILENO, b",0,0");
+    number(code);
+    number(filled);
+    number(left);
+    number(trades);
+    end_line();
+}
+
+// An answer as the day file prints it: refusal, place, code, filled, left, trades.
+pub fn answer(label: &[u8], a: Answer) {
+    match a {
+        Answer::Refused(number_of, place) => refusal(label, number_of, place),
+        Answer::Done(code, filled, left, trades) => done(label, code, filled, left, trades),
+    }
+}
+
+// Free and blocked.
+pub fn position(label: &[u8], p: Position) {
+    io::write_all(STDOUT_FILENO, label);
+    number(p.free);
+    number(p.blocked);
+    end_line();
+}
