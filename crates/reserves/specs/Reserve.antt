@@ -1,7 +1,7 @@
 -- Moves of reserves, on the positions of one asset.
 use Prim.Native.Nat.{ℕ, zero, suc, _+_, _<_, _≤_}
 use mathlib.Core.Path.{_≡_}
-use mathlib.Core.List.{List, [], _∷_}
+use mathlib.Core.List.{List, [], _∷_, _++_}
 use lib.ListN.{set}
 use Rattle.market.specs.declared.Answer.the-variants as answer
 use Rattle.market.specs.declared.Outcome.{Outcome}
@@ -15,21 +15,24 @@ use Rattle.market.specs.Questions.{Question, ask}
 use Rattle.reserves.specs.declared.Move.{Move}
 use Rattle.reserves.specs.declared.Move.the-variants.{Refused, To}
 
--- the questions of an increase after 1: those of market's table for either asset
-abbrev pub increaseQuestions : ℕ → ℕ → ℕ → List Position → ℕ → ℕ → ℕ → List Question
-increaseQuestions participants columns limit l p column a =
+-- the questions of a move after 1 that market's table has for either direction and either asset
+abbrev pub moveQuestions : ℕ → ℕ → ℕ → ℕ → ℕ → ℕ → List Question
+moveQuestions participants columns limit p column a =
     ask 4 (known p participants) ∷
     ask 5 (known column columns) ∷
-    ask 7 (within 1 limit a) ∷
-    ask 9 (totalAt participants l column + a ≤? limit) ∷ []
+    ask 7 (within 1 limit a) ∷ []
+
+-- of an increase
+abbrev pub increaseQuestions : ℕ → ℕ → ℕ → List Position → ℕ → ℕ → ℕ → List Question
+increaseQuestions participants columns limit l p column a =
+    moveQuestions participants columns limit p column a
+    ++ (ask 9 (totalAt participants l column + a ≤? limit) ∷ [])
 
 -- of a decrease
 abbrev pub decreaseQuestions : ℕ → ℕ → ℕ → List Position → ℕ → ℕ → ℕ → List Question
 decreaseQuestions participants columns limit l p column a =
-    ask 4 (known p participants) ∷
-    ask 5 (known column columns) ∷
-    ask 7 (within 1 limit a) ∷
-    ask 10 (a ≤? (position l (place p column)) .free) ∷ []
+    moveQuestions participants columns limit p column a
+    ++ (ask 10 (a ≤? (position l (place p column)) .free) ∷ [])
 
 -- the refusal with the first "no", or the position that is stored
 abbrev pub moveBy : ℕ → ℕ → Position → Move

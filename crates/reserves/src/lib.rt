@@ -19,7 +19,7 @@ ghost use Rattle.market.specs.Sound.{sound};
 ghost use Rattle.market.specs.Calls.{decrease as decreaseCall, increase as increaseCall};
 ghost use Rattle.market.specs.Questions.{firstNo};
 ghost use Rattle.market.specs.Contract.{Does};
-ghost use Rattle.reserves.specs.Reserve.{Bounded, Inside, Moves, Stored, decreaseQuestions, increaseQuestions};
+ghost use Rattle.reserves.specs.Reserve.{Bounded, Inside, Moves, Stored, decreaseQuestions, increaseQuestions, moveQuestions};
 
 // A refused move with its number, or the place that is moved and the position that it then holds.
 pub enum Move {
@@ -42,7 +42,30 @@ fn total_of(participants: u64, positions: [Position; 256], column: u64, limit: u
     sum
 }
 
-// Questions 4, 5, 7 and 9.
+// The first "no" of questions 4, 5 and 7; 0 where there is none.
+fn first_no(
+    participants: u64,
+    columns: u64,
+    limit: u64,
+    participant: u64,
+    column: u64,
+    amount: u64,
+) -> u64
+    ensures { λ r. ⌜ r ≡ firstNo (moveQuestions participants columns limit participant column amount) ⌝ }
+{
+    if participants <= participant {
+        return 4;
+    }
+    if columns <= column {
+        return 5;
+    }
+    if !within(1, limit, amount) {
+        return 7;
+    }
+    0
+}
+
+// Then question 9.
 fn increase(
     participants: u64,
     columns: u64,
@@ -55,14 +78,9 @@ fn increase(
     requires { ⌜ Bounded participants columns limit positions ⌝ }
     ensures { λ r. ⌜ Moves (firstNo (increaseQuestions participants columns limit positions participant column amount)) (place participant column) (receive amount (position positions (place participant column))) r ⌝ }
 {
-    if participants <= participant {
-        return Move::Refused(4);
-    }
-    if columns <= column {
-        return Move::Refused(5);
-    }
-    if !within(1, limit, amount) {
-        return Move::Refused(7);
+    let number = first_no(participants, columns, limit, participant, column, amount);
+    if 0 < number {
+        return Move::Refused(number);
     }
     if limit - total_of(participants, positions, column, limit) < amount {
         return Move::Refused(9);
@@ -78,7 +96,7 @@ fn increase(
     )
 }
 
-// Questions 4, 5, 7 and 10.
+// Then question 10.
 fn decrease(
     participants: u64,
     columns: u64,
@@ -91,14 +109,9 @@ fn decrease(
     requires { ⌜ Bounded participants columns limit positions ⌝ }
     ensures { λ r. ⌜ Moves (firstNo (decreaseQuestions participants columns limit positions participant column amount)) (place participant column) (draw amount (position positions (place participant column))) r ⌝ }
 {
-    if participants <= participant {
-        return Move::Refused(4);
-    }
-    if columns <= column {
-        return Move::Refused(5);
-    }
-    if !within(1, limit, amount) {
-        return Move::Refused(7);
+    let number = first_no(participants, columns, limit, participant, column, amount);
+    if 0 < number {
+        return Move::Refused(number);
     }
     let at = place_of(participant, column);
     let x = positions[at];
