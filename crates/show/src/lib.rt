@@ -47,3 +47,34 @@ pub fn position(label: &[u8], p: Position) {
     number(p.blocked);
     end_line();
 }
+
+// The trade whose numbers start at `first` of the list: buy code, sell code, buyer, seller, security, price, lots, sum.
+pub fn trade(label: &[u8], trades: &[u64], first: usize) {
+    if trades.len() < 8 {
+        return;
+    }
+    if trades.len() - 8 < first {
+        return;
+    }
+    io::write_all(STDOUT_FILENO, label);
+    half(
+        trades[first],
+        trades[first + 1],
+        trades[first + 2],
+        trades[first + 3],
+    );
+    half(
+        trades[first + 4],
+        trades[first + 5],
+        trades[first + 6],
+        trades[first + 7],
+    );
+    end_line();
+}
+
+fn half(a: u64, b: u64, c: u64, d: u64) {
+    number(a);
+    number(b);
+    number(c);
+    number(d);
+}
