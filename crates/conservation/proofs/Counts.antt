@@ -118,7 +118,7 @@ result-counts d lent c = go (firstNo (questions d lent c))
     go (suc n) = refl
 
 -- a list keeps its length when trades that fit are written to it
-numbers-length : (ts : List Trade) → length (allNumbers ts) ≡ numbersPerTrade * length ts
+pub numbers-length : (ts : List Trade) → length (allNumbers ts) ≡ numbersPerTrade * length ts
 numbers-length [] = refl
 numbers-length (t ∷ ts) = let r = numbers-length ts in omega arith
 

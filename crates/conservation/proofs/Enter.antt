@@ -1,5 +1,5 @@
 -- An accepted order keeps Good.
-use Prim.Native.Nat.{ℕ, _+_, _≤_, _<_}
+use Prim.Native.Nat.{ℕ, _+_, _≤_, _<_, min}
 use native.Mathlib.Omega.{arith}
 use mathlib.Core.Path.{_≡_, refl, ap, sym, _∙_, subst}
 use mathlib.Core.List.{List, [], _∷_, _++_, append-nil}
@@ -132,7 +132,7 @@ has-room Kept d e h r = omega (arith, ltb-true (length (d .waiting)) maxWaiting 
 has-room ImmediateOrCancel d e h r = omega arith
 has-room FillOrKill d e h r = omega arith
 
-start-ok : {U : Type 0} {r : Rules} (b : Book) (d : Day) (p : ℕ) (m : Member) (k : TimeInForce) → Good U r b d
+pub start-ok : {U : Type 0} {r : Rules} (b : Book) (d : Day) (p : ℕ) (m : Member) (k : TimeInForce) → Good U r b d
     → firstNo (orderQuestions d p m k) ≡ 0
     → Matching U k r (orderIn b (codesOf d p + 1) p m k) (admitted d (entryOf d p m)) (entryOf d p m)
 unfolding orderQuestions admitted blockFor beforeTrades
@@ -178,7 +178,7 @@ pub record EnteredOk (U : Type 0) (r : Rules) (b : Book) (d : Day) (p : ℕ) (m 
         → sumOf (ownLots x q c) (f .trades) ≡ 0
     pub codes : codesOf (f .day) p ≡ codesOf d p + 1
     pub fresh : (q c : ℕ) → Fresh q c (d .waiting) → Fresh q c (f .day .waiting)
-    pub count : length (f .trades) + length (f .day .waiting) ≤ length (d .waiting) + 1
+    pub count : length (f .trades) + (length (f .day .waiting) + min 1 (f .entry .lots)) ≤ length (d .waiting) + 1
     pub few : length (f .trades) ≤ length (d .waiting)
 
 pub enter-ok : {U : Type 0} {r : Rules} (b : Book) (d : Day) (p : ℕ) (m : Member) (k : TimeInForce) → Good U r b d

@@ -76,7 +76,8 @@ pub record FilledOk (U : Type 0) (k : TimeInForce) (rules : Rules) (b : Book) (d
   pub codes : (p : ℕ) → codesOf (r .day) p ≡ codesOf d p
   pub own : sumOf (ownLots (e .side) (e .participant) (e .code)) (r .trades) + r .entry .lots ≡ e .lots
   pub full : e .lots ≤ fitting e (d .waiting) → r .entry .lots ≡ 0
-  pub count : length (r .trades) + length (r .day .waiting) ≤ length (d .waiting) + min 1 (e .lots)
+  pub count : length (r .trades) + (length (r .day .waiting) + min 1 (r .entry .lots))
+      ≤ length (d .waiting) + min 1 (e .lots)
   pub few : length (r .trades) ≤ length (d .waiting)
   pub idle : e .lots ≡ 0 → length (r .trades) ≡ 0
   pub others : (x : Side) (q c : ℕ) → Fresh q c (d .waiting) → Differs q c e → sumOf (ownLots x q c) (r .trades) ≡ 0

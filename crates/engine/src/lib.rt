@@ -9,6 +9,7 @@ use market::Position;
 use market::Security;
 use market::Side;
 use market::State;
+use market::TimeInForce;
 use market::Turnover;
 use market::accepted;
 use market::refused;
@@ -20,7 +21,7 @@ ghost use mathlib.Core.List.{[]};
 ghost use Prim.Native.Nat.{_≤_};
 ghost use Rattle.market.specs.Limits.{maxSecurities};
 ghost use Rattle.market.specs.Day.{Money, Pieces, view};
-ghost use Rattle.market.specs.Calls.{decrease, increase};
+ghost use Rattle.market.specs.Calls.{cancel as cancelCall, decrease, increase, order};
 ghost use Rattle.market.specs.Opening.{firstWrong, noRules, opened as openedDay};
 ghost use Rattle.market.specs.Contract.{Does, Opens};
 ghost use Rattle.engine.specs.Opening.{RefusedOpening};
@@ -147,4 +148,32 @@ pub fn decrease_pieces(s: State, participant: u64, security: u64, amount: u64) -
         return refused(s, 1);
     }
     reserves::decrease_pieces(s, participant, security, amount)
+}
+
+// The trades stand from the start of the lent list on.
+pub fn enter_order(
+    s: State,
+    participant: u64,
+    side: Side,
+    security: u64,
+    price: u64,
+    lots: u64,
+    force: TimeInForce,
+    trades: &mut [u64],
+) -> Outcome
+    ensures { λ r. ⌜ Does s (now (trades .entry)) (order participant (record { side = side; security = security; price = price; lots = lots }) force) r (now (trades .exit)) ⌝ }
+{
+    if !is_sound(s) {
+        return refused(s, 1);
+    }
+    orders::enter_order(s, participant, side, security, price, lots, force, trades)
+}
+
+pub fn cancel(s: State, participant: u64, code: u64) -> Outcome
+    ensures { λ r. ⌜ Does s [] (cancelCall participant code) r [] ⌝ }
+{
+    if !is_sound(s) {
+        return refused(s, 1);
+    }
+    orders::cancel(s, participant, code)
 }

@@ -1,0 +1,4 @@
+pub mod Place
+pub mod Allowing
+pub mod Accepting
+pub mod Calling
