@@ -2,6 +2,7 @@
 // None has a `requires`; a refusal hands back the very state given.
 use market::Answer;
 use market::Kind;
+use market::Member;
 use market::Order;
 use market::Outcome;
 use market::Phase;
@@ -21,7 +22,7 @@ ghost use mathlib.Core.List.{[]};
 ghost use Prim.Native.Nat.{_≤_};
 ghost use Rattle.market.specs.Limits.{maxSecurities};
 ghost use Rattle.market.specs.Day.{Money, Pieces, view};
-ghost use Rattle.market.specs.Calls.{cancel as cancelCall, decrease, increase, order};
+ghost use Rattle.market.specs.Calls.{cancel as cancelCall, decrease, increase, linked as linkedCall, order};
 ghost use Rattle.market.specs.Opening.{firstWrong, noRules, opened as openedDay};
 ghost use Rattle.market.specs.Contract.{Does, Opens};
 ghost use Rattle.engine.specs.Opening.{RefusedOpening};
@@ -176,4 +177,19 @@ pub fn cancel(s: State, participant: u64, code: u64) -> Outcome
         return refused(s, 1);
     }
     orders::cancel(s, participant, code)
+}
+
+pub fn enter_group(
+    s: State,
+    participant: u64,
+    count: u64,
+    members: [Member; 8],
+    trades: &mut [u64],
+) -> Outcome
+    ensures { λ r. ⌜ Does s (now (trades .entry)) (linkedCall participant count members) r (now (trades .exit)) ⌝ }
+{
+    if !is_sound(s) {
+        return refused(s, 1);
+    }
+    linked::enter_group(s, participant, count, members, trades)
 }
