@@ -22,7 +22,8 @@ ghost use mathlib.Core.List.{[]};
 ghost use Prim.Native.Nat.{_≤_};
 ghost use Rattle.market.specs.Limits.{maxSecurities};
 ghost use Rattle.market.specs.Day.{Money, Pieces, view};
-ghost use Rattle.market.specs.Calls.{cancel as cancelCall, decrease, increase, linked as linkedCall, order};
+ghost use Rattle.market.specs.Calls.{cancel as cancelCall, closingOrder, decrease, endSession};
+ghost use Rattle.market.specs.Calls.{increase, linked as linkedCall, order, startClosing};
 ghost use Rattle.market.specs.Opening.{firstWrong, noRules, opened as openedDay};
 ghost use Rattle.market.specs.Contract.{Does, Opens};
 ghost use Rattle.engine.specs.Opening.{RefusedOpening};
@@ -192,4 +193,38 @@ pub fn enter_group(
         return refused(s, 1);
     }
     linked::enter_group(s, participant, count, members, trades)
+}
+
+pub fn start_closing(s: State) -> Outcome
+    ensures { λ r. ⌜ Does s [] startClosing r [] ⌝ }
+{
+    if !is_sound(s) {
+        return refused(s, 1);
+    }
+    session::start_closing(s)
+}
+
+pub fn enter_closing_order(
+    s: State,
+    participant: u64,
+    side: Side,
+    security: u64,
+    lots: u64,
+) -> Outcome
+    ensures { λ r. ⌜ Does s [] (closingOrder participant side security lots) r [] ⌝ }
+{
+    if !is_sound(s) {
+        return refused(s, 1);
+    }
+    session::enter_closing_order(s, participant, side, security, lots)
+}
+
+// The trades stand from the start of the lent list on.
+pub fn end_session(s: State, trades: &mut [u64]) -> Outcome
+    ensures { λ r. ⌜ Does s (now (trades .entry)) endSession r (now (trades .exit)) ⌝ }
+{
+    if !is_sound(s) {
+        return refused(s, 1);
+    }
+    session::end_session(s, trades)
 }

@@ -76,7 +76,7 @@ module _ {r : Rules} {x : List Order} {b : Book} {d : Day} (agree : Agree r x b 
 
 module _ {U : Type 0} {r : Rules} {b : Book} {d : Day} (g : Good U r b d) where
   -- a kept order's price is in range, and so is T / Q
-  limit-fits : (o : Order) → OrderOk (d .rules) o → KindOk d o → limitOf (d .turnover) o ≤ maxPrice
+  pub limit-fits : (o : Order) → OrderOk (d .rules) o → KindOk d o → limitOf (d .turnover) o ≤ maxPrice
   limit-fits o ok k = go (o .kind) k
     where
       go : (k : Kind)

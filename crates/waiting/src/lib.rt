@@ -20,10 +20,10 @@ ghost use Rattle.market.specs.Entry.{admitted as dayAdmitted};
 ghost use Rattle.waiting.specs.Claims.{Admissible, Claimed, Freeable, Leaves, Reckonable};
 
 // What an order needs, and the position where it blocks.
-pub struct Claim {
-    pub need: u64,
-    pub at: usize,
-    pub position: Position,
+struct Claim {
+    need: u64,
+    at: usize,
+    position: Position,
 }
 
 // A buy claims money in its security's currency, a sell pieces of its security.

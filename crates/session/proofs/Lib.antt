@@ -1,0 +1,4 @@
+pub mod Leaving
+pub mod Asking
+pub mod Meeting
+pub mod Rounds
