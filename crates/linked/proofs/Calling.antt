@@ -1,6 +1,6 @@
 -- From the members in turn to the contract of the call.
 use Prim.Native.Nat.{ℕ, _≤_, _<_}
-use mathlib.Core.Path.{_≡_, _∙_}
+use mathlib.Core.Path.{_≡_}
 use mathlib.Core.List.{List}
 use mathlib.Core.Bool.{true, false}
 use lib.ListN.{length}
@@ -14,11 +14,12 @@ use Rattle.market.specs.Day.{Sized, view}
 use Rattle.market.specs.Sound.{sound}
 use Rattle.market.specs.Calls.{linked}
 use Rattle.market.specs.Questions.{firstNo, questions}
-use Rattle.market.specs.Step.{effect, result, step}
+use Rattle.market.specs.Step.{effect, result}
 use Rattle.market.specs.Contract.{Does}
 use Rattle.market.proofs.Logic.{within-high}
 use Rattle.orders.proofs.Allowing.{count-fits, good}
-use Rattle.linked.specs.Group.{Groups, Ready}
+use Rattle.orders.proofs.Calling.{does-give}
+use Rattle.linked.specs.Group.{Groups, Ready, inTurn}
 
 module _ (s : State) (p count : ℕ) (ms : List Member) (l : List ℕ) (t : sound (view s) ≡ true) where
   pub group-short : length l < lentAtLeast → firstNo (questions (view s) (length l) (linked p count ms)) ≡ 2
@@ -42,14 +43,7 @@ module _ (s : State) (p count : ℕ) (ms : List Member) (l : List ℕ) (t : soun
       }
 
       pub group-does : (l′ : List ℕ) (o : Outcome) → Groups s p count ms l l′ o → Does s l (linked p count ms) o l′
-      unfolding questions step result effect
+      unfolding questions result effect
       group-does l′ o g =
-          let lent = le-leb lentAtLeast (length l) h in
-          record {
-            meets = record {
-              answer = g .gives .answer ∙ rw (t, lent, w);
-              state = g .gives .day ∙ rw (t, lent, w);
-              list = g .gives .list ∙ rw (t, lent, w);
-            };
-            refusal = g .refusal;
-          }
+          does-give s l l′ (linked p count ms) o (inTurn (view s) p count ms)
+          (rw (t, le-leb lentAtLeast (length l) h, w)) (g .gives) (g .refusal)

@@ -12,7 +12,8 @@ use Rattle.conservation.proofs.Counts.{numbers-length, written-length}
 numbers-append : (ts us : List Trade) → allNumbers (ts ++ us) ≡ allNumbers ts ++ allNumbers us
 numbers-append [] us = refl
 numbers-append (t ∷ ts) us =
-    ap (λ (l : List ℕ). numbers t ++ l) (numbers-append ts us) ∙ sym (append-assoc (numbers t) (allNumbers ts) (allNumbers us))
+    ap (λ (l : List ℕ). numbers t ++ l) (numbers-append ts us)
+    ∙ sym (append-assoc (numbers t) (allNumbers ts) (allNumbers us))
 
 -- the list when the part from `at` on was lent and came back as part
 abbrev pub returned : List ℕ → ℕ → List ℕ → List ℕ
@@ -22,8 +23,10 @@ returned l at part = take at l ++ (part ++ drop (length l - at) (drop at l))
 abbrev pub lentFrom : List ℕ → ℕ → List ℕ
 lentFrom l at = take (length l - at) (drop at l)
 
-pub lent-length : (l : List ℕ) (at : ℕ) → at ≤ length l → length (lentFrom l at) ≡ length l - at
-lent-length l at h = ap length (take-all (length l - at) (drop at l) (simp length-drop (omega arith))) ∙ length-drop at l
+-- behind the trades that are written the list is as it was
+behind : (l₀ l : List ℕ) (ts : List Trade) (at : ℕ) → at ≡ numbersPerTrade * length ts → l ≡ written ts l₀
+    → drop at l ≡ drop at l₀
+behind l₀ l ts at here before = rw (before, ← here) (drop-at (allNumbers ts) _ at (numbers-length ts ∙ sym here))
 
 -- a list of numbers with the trades ts, to which us are written behind them
 module _ (l₀ l part : List ℕ) (ts us : List Trade) (at : ℕ) (here : at ≡ numbersPerTrade * length ts)
@@ -31,14 +34,12 @@ module _ (l₀ l part : List ℕ) (ts us : List Trade) (at : ℕ) (here : at ≡
   front : take at l ≡ allNumbers ts
   front = rw before (take-at (allNumbers ts) _ at (numbers-length ts ∙ sym here))
 
-  back : drop at l ≡ drop at l₀
-  back = rw (before, ← here) (drop-at (allNumbers ts) _ at (numbers-length ts ∙ sym here))
-
   long : length l ≡ length l₀
   long = ap length before ∙ written-length ts l₀ (omega arith)
 
   whole : lentFrom l at ≡ drop at l₀
-  whole = take-all (length l - at) (drop at l) (simp length-drop (omega arith)) ∙ back
+  whole = take-all (length l - at) (drop at l) (simp length-drop (omega arith))
+      ∙ behind l₀ l ts at here before
 
   nothing : drop (length l - at) (drop at l) ≡ []
   nothing = drop-of-length-le (drop at l) {i = length l - at} (simp length-drop (omega arith))
@@ -56,6 +57,4 @@ module _ (l₀ l part : List ℕ) (ts us : List Trade) (at : ℕ) (here : at ≡
 pub put-back : (l₀ l kept : List ℕ) (ts : List Trade) (at : ℕ) → at ≡ numbersPerTrade * length ts → at ≤ lentAtLeast
     → l ≡ written ts l₀ → kept ≡ take lentAtLeast l₀ → take at kept ++ drop at l ≡ l₀
 put-back l₀ l kept ts at here fits before saved =
-    let back : drop at l ≡ drop at l₀ =
-    rw (before, ← here) (drop-at (allNumbers ts) _ at (numbers-length ts ∙ sym here)) in
-    rw (back, saved, take-take at lentAtLeast l₀ fits) (take-append-drop at l₀)
+    rw (behind l₀ l ts at here before, saved, take-take at lentAtLeast l₀ fits) (take-append-drop at l₀)

@@ -83,14 +83,18 @@ module _ (d : Day) (p : ℕ) (m : Member) where
           → (0 < number) × (orderNo d p m FillOrKill ≡ number) × (length (result .trades) ≡ 0)
       go zero e h = absurd (let z : _≡_ {A = ℕ} 0 1 = cc in omega arith)
       go (suc n) e h =
-          let q : number ≡ suc n = ap (λ (x : Answer). (numbersOf x) .refusal) h in
-          (omega arith, e ∙ sym q, ap (λ (n : ℕ). length ((answerBy n d (entered d (entryOf d p m) FillOrKill)) .trades)) e)
+          let q : number ≡ suc n = ap (λ (x : Answer). (numbersOf x) .refusal) h in (
+            omega arith,
+            e ∙ sym q,
+            ap (λ (n : ℕ). length ((answerBy n d (entered d (entryOf d p m) FillOrKill)) .trades)) e,
+          )
 
   -- the group from this member on
   module _ (at filled : ℕ) (ts : List Trade) (ms : List Member) where
     pub member-accepted : orderNo d p m FillOrKill ≡ 0
         → before filled ts (members at d p (m ∷ ms))
-        ≡ before (filled + (numbersOf (result .answer)) .filled) (ts ++ result .trades) (members (suc at) (result .day) p ms)
+        ≡ before (filled + (numbersOf (result .answer)) .filled) (ts ++ result .trades)
+        (members (suc at) (result .day) p ms)
     unfolding members
     member-accepted e =
         let r = entered d (entryOf d p m) FillOrKill in
@@ -105,4 +109,5 @@ module _ (d : Day) (p : ℕ) (m : Member) where
     unfolding members
     member-refused zero h e = absurd (omega arith)
     member-refused (suc n) h e =
-        ap (λ (n : ℕ). before filled ts (memberBy n at (entered d (entryOf d p m) FillOrKill) (λ d′. members (suc at) d′ p ms))) e
+        let r = entered d (entryOf d p m) FillOrKill in
+        ap (λ (n : ℕ). before filled ts (memberBy n at r (λ d′. members (suc at) d′ p ms))) e

@@ -45,7 +45,13 @@ pub record Turn (s : State) (p count : ℕ) (l₀ : List ℕ) (ms : List Member)
 module _ {s : State} {p count : ℕ} {l₀ : List ℕ} {ms : List Member} {kept : List ℕ} {first : ℕ} {l : List ℕ}
     {present : State} {filled made i : ℕ} (t : Turn s p count l₀ ms kept first l present filled made i) where
   pub turn-long : length l ≡ length l₀
-  turn-long = ap length (t .list) ∙ written-length (t .trades) l₀ (omega (arith, t .number, t .space, t .turns, t .ready))
+  turn-long =
+      ap length (t .list)
+      ∙ written-length (t .trades) l₀ (omega (arith, t .number, t .space, t .turns, t .ready))
+
+  -- before a member there is room for as many trades as orders wait
+  pub turn-room : i < count → numbersPerTrade * (made + present .count) ≤ lentAtLeast
+  turn-room h = omega (arith, t .space, t .ready .waiting, t .ready .most)
 
   next-member : (z : Member) → i < count → drop i (take count ms) ≡ getD ms i z ∷ drop (i + 1) (take count ms)
   next-member z h =
@@ -65,8 +71,17 @@ module _ {s : State} {p count : ℕ} {l₀ : List ℕ} {ms : List Member} {kept 
     ends : at ≡ numbersPerTrade * length (t .trades)
     ends = omega (arith, t .number)
 
-    pub fits : at ≤ lentAtLeast
-    fits = omega (arith, t .space, t .turns, t .ready .waiting, t .ready .most)
+    fits : at ≤ lentAtLeast
+    fits = omega (arith, turn-room h)
+
+    abbrev rest : List Member
+    rest = drop (i + 1) (take count ms)
+
+    runs-here : members 1 (view s) p (take count ms)
+        ≡ before filled (t .trades) (members (i + 1) (view present) p (m ∷ rest))
+    runs-here =
+        t .runs
+        ∙ ap (λ (x : List Member). before filled (t .trades) (members (i + 1) (view present) p x)) (next-member z h)
 
     list-after : returned l at part ≡ written (t .trades ++ result .trades) l₀
     list-after =
@@ -80,20 +95,25 @@ module _ {s : State} {p count : ℕ} {l₀ : List ℕ} {ms : List Member} {kept 
         (omega (
           arith,
           t .number,
-          t .space,
-          t .turns,
-          t .ready .waiting,
-          t .ready .most,
+          turn-room h,
           t .ready .lent,
           e .count,
           length-append (t .trades) (result .trades),
         ))
 
     module _ (code lots left number : ℕ) (done : o .answer ≡ Done code lots left number) where
-      pub member-done : Accepted (view present) p m lots number
+      member-done : Accepted (view present) p m lots number
       member-done = accepted (view present) p m (o .answer) code lots left number (e .gives .answer) done
 
-      pub turn-next : Turn s p count l₀ ms kept first (returned l at part) (o .state) (filled + lots) (made + number) (i + 1)
+      pub sums-fit : (filled + lots ≤ maxLots * maxMembers) × (numbersPerTrade * (made + number) ≤ lentAtLeast)
+      sums-fit =
+          let a = member-done in (
+            omega (arith, t .lots, t .ready .most, a .few),
+            omega (arith, t .space, t .ready .waiting, t .ready .most, a .number, e .count),
+          )
+
+      pub turn-next : Turn s p count l₀ ms kept first (returned l at part) (o .state) (filled + lots) (made + number)
+          (i + 1)
       turn-next =
           let a = member-done in
           record {
@@ -108,9 +128,8 @@ module _ {s : State} {p count : ℕ} {l₀ : List ℕ} {ms : List Member} {kept 
             space = omega (arith, t .space, a .number, e .count);
             lots = omega (arith, t .lots, a .few);
             list = list-after;
-            runs = t .runs
-                ∙ ap (λ (x : List Member). before filled (t .trades) (members (i + 1) (view present) p x)) (next-member z h)
-                ∙ member-accepted (view present) p m (i + 1) filled (t .trades) (drop (i + 1) (take count ms)) (a .asked)
+            runs = runs-here
+                ∙ member-accepted (view present) p m (i + 1) filled (t .trades) rest (a .asked)
                 ∙ rw (← a .lots, ← add-one (i + 1), ← e .gives .day);
           }
 
@@ -120,9 +139,7 @@ module _ {s : State} {p count : ℕ} {l₀ : List ℕ} {ms : List Member} {kept 
       turn-stops =
           let r = refused (view present) p m (o .answer) number place (e .gives .answer) stop in
           let all : members 1 (view s) p (take count ms) ≡ stopped number (i + 1) =
-          t .runs
-          ∙ ap (λ (x : List Member). before filled (t .trades) (members (i + 1) (view present) p x)) (next-member z h)
-          ∙ member-refused (view present) p m (i + 1) filled (t .trades) (drop (i + 1) (take count ms)) number (r .0) (r .1) in
+          runs-here ∙ member-refused (view present) p m (i + 1) filled (t .trades) rest number (r .0) (r .1) in
           let same = ap (groupResult (view s) p) (sym all) in
           record {
             gives = record {

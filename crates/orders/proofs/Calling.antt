@@ -1,6 +1,6 @@
 -- From the entry of an order, and from a search, to the contracts of the calls.
 use Prim.Native.Nat.{ℕ, _≤_, _<_}
-use mathlib.Core.Path.{_≡_, refl, _∙_, subst}
+use mathlib.Core.Path.{_≡_, refl, ap, sym, _∙_, subst}
 use mathlib.Core.List.{List, []}
 use mathlib.Core.Bool.{true}
 use lib.ListN.{length}
@@ -14,13 +14,28 @@ use Rattle.market.specs.Limits.{lentAtLeast}
 use Rattle.market.specs.Day.{view}
 use Rattle.market.specs.Sound.{sound}
 use Rattle.market.specs.Waiting.{leave, nowhere, placeOf, somewhere}
-use Rattle.market.specs.Calls.{cancel, order}
+use Rattle.market.specs.TradeList.{written}
+use Rattle.market.specs.Answers.{Result}
+use Rattle.market.specs.Calls.{Call, cancel, order}
 use Rattle.market.specs.Questions.{firstNo, questions}
 use Rattle.market.specs.Step.{effect, result, step}
-use Rattle.market.specs.Contract.{Does}
+use Rattle.market.specs.Contract.{Does, HandedBack}
 use Rattle.market.proofs.Step.{does-accept}
 use Rattle.conservation.proofs.Listed.{Located, place-located}
-use Rattle.orders.specs.Entering.{Enters}
+use Rattle.orders.specs.Entering.{Enters, Gives, entering}
+
+-- a call with the result x, and code that gives x
+pub does-give : (s : State) (l l′ : List ℕ) (c : Call) (o : Outcome) (x : Result) → result (view s) (length l) c ≡ x
+    → Gives x l l′ o → HandedBack s (o .answer) (o .state) → Does s l c o l′
+unfolding step
+does-give s l l′ c o x e g back = record {
+  meets = record {
+    answer = g .answer ∙ ap (λ (y : Result). y .answer) (sym e);
+    state = g .day ∙ ap (λ (y : Result). y .day) (sym e);
+    list = g .list ∙ ap (λ (y : Result). written (y .trades) l) (sym e);
+  };
+  refusal = back;
+}
 
 -- an order's call from its entry on
 module _ (s : State) (p : ℕ) (m : Member) (k : TimeInForce) (l : List ℕ) (t : sound (view s) ≡ true) where
@@ -30,17 +45,10 @@ module _ (s : State) (p : ℕ) (m : Member) (k : TimeInForce) (l : List ℕ) (t 
 
   pub order-does : (l′ : List ℕ) (o : Outcome) → lentAtLeast ≤ length l → Enters s p m k l l′ o
       → Does s l (order p m k) o l′
-  unfolding questions step result effect
+  unfolding questions result effect
   order-does l′ o h e =
-      let lent = le-leb lentAtLeast (length l) h in
-      record {
-        meets = record {
-          answer = e .gives .answer ∙ rw (t, lent);
-          state = e .gives .day ∙ rw (t, lent);
-          list = e .gives .list ∙ rw (t, lent);
-        };
-        refusal = e .refusal;
-      }
+      does-give s l l′ (order p m k) o (entering (view s) p m k) (rw (t, le-leb lentAtLeast (length l) h)) (e .gives)
+      (e .refusal)
 
 -- a cancellation
 module _ (s : State) (p c : ℕ) (t : sound (view s) ≡ true) where

@@ -35,14 +35,14 @@ ghost use Rattle.market.specs.Sound.{sound};
 ghost use Rattle.market.specs.Waiting.{placeOf};
 ghost use Rattle.market.specs.Calls.{cancel as cancelCall, entryOf, order};
 ghost use Rattle.market.specs.Questions.{fillable, roomFor};
-ghost use Rattle.market.specs.Entry.{entered, finished as dayFinished, leftWaiting};
+ghost use Rattle.market.specs.Entry.{entered as dayEntered, finished as dayFinished, leftWaiting};
 ghost use Rattle.market.specs.Contract.{Does};
 ghost use Rattle.matching.specs.Orders.{FewLots};
 ghost use Rattle.orders.specs.Entering.{Enters, Finishes, Gives, orderNo};
 ghost use Rattle.orders.specs.Finding.{foundAt, isOwn as ownOrder};
 
 // Place of a waiting order.
-pub enum Found {
+enum Found {
     Nothing,
     At(usize),
 }
@@ -148,7 +148,7 @@ fn finished(s: State, force: TimeInForce, rest: Order) -> State
 }
 
 // An order whose questions are all answered "yes": it is admitted and matched, and what is left of it waits or is freed.
-fn accepted(
+fn entered(
     s: State,
     participant: u64,
     member: Member,
@@ -156,16 +156,16 @@ fn accepted(
     trades: &mut [u64],
 ) -> Outcome
     requires { ⌜ (sound (view s) ≡ true) × (orderNo (view s) participant member force ≡ 0) × (numbersPerTrade * s .count ≤ length (now trades)) ⌝ }
-    ensures { λ r. ⌜ Gives (entered (view s) (entryOf (view s) participant member) force) (now (trades .entry)) (now (trades .exit)) r ⌝ }
+    ensures { λ r. ⌜ Gives (dayEntered (view s) (entryOf (view s) participant member) force) (now (trades .entry)) (now (trades .exit)) r ⌝ }
 {
     let entry = entry_of(s, participant, member);
     let filled = fill(admitted(s, entry), entry, trades);
     let rest = with_lots(entry, filled.left);
     let matched = filled.state;
     let state = finished(matched, force, rest);
-    let left = left_waiting(force, rest);
+    let waits = left_waiting(force, rest);
     Outcome {
-        answer: Answer::Done(entry.code, entry.lots - filled.left, left, filled.trades),
+        answer: Answer::Done(entry.code, entry.lots - filled.left, waits, filled.trades),
         state,
     }
 }
@@ -185,7 +185,7 @@ pub fn enter(
     if 0 < number {
         return refused(s, number);
     }
-    accepted(s, participant, member, force, trades)
+    entered(s, participant, member, force, trades)
 }
 
 pub fn enter_order(

@@ -8,11 +8,12 @@ use lib.ListN.{length, length-take, length-drop}
 use borrow.Author.Needs.{needs}
 use denote.Ref.{now}
 use Rattle.market.specs.declared.Answer.{Answer}
-use Rattle.market.specs.Limits.{lentAtLeast, numbersPerTrade}
+use Rattle.market.specs.Limits.{lentAtLeast, maxLots, maxMembers, numbersPerTrade}
 use Rattle.market.specs.Answers.{numbersOf}
 use Rattle.linked.proofs.Lent.{returned}
 use Rattle.linked.proofs.Taken.{before-none}
-use Rattle.linked.proofs.Turns.{Turn, list-long, member-done, turn-long, turn-next, turn-stops, turns-end}
+use Rattle.linked.proofs.Turns.{Turn, list-long, sums-fit, turn-long, turn-next, turn-room, turn-stops}
+use Rattle.linked.proofs.Turns.{turns-end}
 use Rattle.linked.proofs.members_in_turn.Statement.{statement}
 use Rattle.linked.proofs.members_in_turn.Tie as tie
 
@@ -51,9 +52,7 @@ loop-holds c =
 -- before a member there is room for as many trades as orders wait
 room : (c : tie.In-loop Inv-loop μ-loop)
     → numbersPerTrade * (c .before .loop .made + c .before .loop .present .count) ≤ lentAtLeast
-room c =
-    let t = c .before .loop .inv in
-    omega (arith, t .space, t .ready .waiting, t .ready .most, c .loop-test .taken)
+room c = turn-room (c .before .loop .inv) (c .loop-test .taken)
 
 -- and for them the list is long enough
 lent : (c : tie.In-loop Inv-loop μ-loop)
@@ -107,9 +106,13 @@ here c = omega arith
 abbrev part : tie.After-enter Inv-loop μ-loop → List ℕ
 part c = c .enter .last .1 .1 .1 .1 .0
 
-long : (c : tie.After-enter Inv-loop μ-loop)
-    → length (returned ((inside c) .before .loop .trades) (at c) (part c)) ≡ length (now ((inside c) .before .before .before .before .before .before .args .trades))
-long c = list-long ((inside c) .before .loop .inv) _ ((inside c) .loop-test .taken) (at c) (here c) (c .enter .result) (part c) (c .enter .ensures)
+long : (c : tie.After-enter Inv-loop μ-loop) →
+    let b : tie.Start Inv-loop μ-loop = (inside c) .before .before .before .before .before .before in
+    length (returned ((inside c) .before .loop .trades) (at c) (part c)) ≡ length (now (b .args .trades))
+long c =
+    let k = inside c in
+    list-long (k .before .loop .inv) _ (k .loop-test .taken) (at c) (here c) (c .enter .result) (part c)
+    (c .enter .ensures)
 
 restore-requires : tie.Need-restore-requires Inv-loop μ-loop
 restore-requires c κs =
@@ -140,28 +143,25 @@ returns c =
     let number : c .number-of .result ≡ told .enum-told .given .0 .0 =
     c .number-of .ensures ∙ ap (λ (a : Answer). (numbersOf a) .refusal) (told .enum-told .given .1) in
     rw (number, c .before .before .before .restore .ensures)
-    (turn-stops (k .before .loop .inv) _ (k .loop-test .taken) (at e) (here e) (e .enter .result) (part e) (e .enter .ensures) _ _
-    (told .enum-told .given .1))
+    (turn-stops (k .before .loop .inv) _ (k .loop-test .taken) (at e) (here e) (e .enter .result) (part e)
+    (e .enter .ensures) _ _ (told .enum-told .given .1))
+
+-- with an accepted member's lots and trades the sums stay small
+sums : (c : tie.After-known-told Inv-loop μ-loop) →
+    let e : tie.After-enter Inv-loop μ-loop = c .before .before .before .before .before in
+    ((inside e) .before .loop .filled + c .before .answer .given .0 .1 .0 ≤ maxLots * maxMembers)
+    × (numbersPerTrade * ((inside e) .before .loop .made + c .before .answer .given .0 .1 .1 .1 .0) ≤ lentAtLeast)
+sums c =
+    let e = c .before .before .before .before .before in
+    let k = inside e in
+    sums-fit (k .before .loop .inv) _ (k .loop-test .taken) (at e) (here e) (e .enter .result) (part e)
+    (e .enter .ensures) _ _ _ _ (c .before .answer .given .1)
 
 add-filled : tie.Need-add-filled Inv-loop μ-loop
-add-filled c =
-    let e = c .before .before .before .before .before in
-    let k = inside e in
-    let t = k .before .loop .inv in
-    let a =
-    member-done t _ (k .loop-test .taken) (at e) (here e) (e .enter .result) (part e) (e .enter .ensures) _ _ _ _
-    (c .before .answer .given .1) in
-    omega (arith, t .lots, t .ready .most, a .few, k .loop-test .taken)
+add-filled c = omega (arith, sums c)
 
 add-made : tie.Need-add-made Inv-loop μ-loop
-add-made c =
-    let e = c .before .before .before .before .before in
-    let k = inside e in
-    let t = k .before .loop .inv in
-    let a =
-    member-done t _ (k .loop-test .taken) (at e) (here e) (e .enter .result) (part e) (e .enter .ensures) _ _ _ _
-    (c .before .answer .given .1) in
-    omega (arith, room k, a .number, e .enter .ensures .count)
+add-made c = omega (arith, sums c)
 
 add-i : tie.Need-add-i Inv-loop μ-loop
 add-i c =
@@ -177,8 +177,8 @@ loop-again : tie.Need-loop-again Inv-loop μ-loop
 loop-again c =
     let e = c .before .before .before .before .before .before in
     let k = inside e in
-    turn-next (k .before .loop .inv) _ (k .loop-test .taken) (at e) (here e) (e .enter .result) (part e) (e .enter .ensures) _ _ _ _
-    (c .before .before .answer .given .1)
+    turn-next (k .before .loop .inv) _ (k .loop-test .taken) (at e) (here e) (e .enter .result) (part e)
+    (e .enter .ensures) _ _ _ _ (c .before .before .answer .given .1)
 
 same-length-2 : tie.Need-same-length-2 Inv-loop μ-loop
 same-length-2 c = turn-long (c .before .loop .inv)

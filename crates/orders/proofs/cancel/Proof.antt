@@ -49,7 +49,8 @@ returns-2 c =
 -- the place that the search found
 there : (c : tie.After-known-told) →
     let b : tie.Start = c .before .before .before .before .before .before .before in
-    placeOf (b .args .participant) (b .args .code) ((view (b .args .s)) .waiting) ≡ somewhere (c .before .found .given .0 .0)
+    placeOf (b .args .participant) (b .args .code) ((view (b .args .s)) .waiting)
+    ≡ somewhere (c .before .found .given .0 .0)
 there c = sym (c .before .before .before .find .ensures) ∙ ap foundAt (c .before .found .given .1)
 
 left-requires : tie.Need-left-requires

@@ -30,8 +30,8 @@ returns c =
     (enters-refused (b .args .s) (b .args .participant) (b .args .member) (b .args .force) (now (b .args .trades))
     (k .first-no .result) (c .before .if1 .taken) (k .first-no .ensures) (b .pre .0))
 
-accepted-requires : tie.Need-accepted-requires
-accepted-requires c κs =
+entered-requires : tie.Need-entered-requires
+entered-requires c κs =
     let b = c .before .before .before .before in
     (b .pre .0, clear (c .before), b .pre .1)
 
@@ -43,10 +43,10 @@ returns-2 c =
     let k = c .before .before .before .before in
     let b = k .before .before .before in
     let a = b .args in
-    enters-accepted (a .s) (a .participant) (a .member) (a .force) (now (a .trades)) _ _ ((sized (a .s) (b .good .0)) .day)
-    (b .pre .0) (clear k) (c .before .before .accepted .ensures)
+    enters-accepted (a .s) (a .participant) (a .member) (a .force) (now (a .trades)) _ _
+    ((sized (a .s) (b .good .0)) .day) (b .pre .0) (clear k) (c .before .before .entered .ensures)
 
 pub enter-spec : {M : Type 1} → statement M
 enter-spec =
     tie.close
-    (tie.spec first-no-requires refused-requires returns accepted-requires same-length returns-2)
+    (tie.spec first-no-requires refused-requires returns entered-requires same-length returns-2)

@@ -34,8 +34,8 @@ returns c =
     let k = c .before in
     let l = k .before .before .before in
     let a = l .before .args in
-    sym (found-here (isOwn (a .participant) (a .code)) (a .count) (a .t1) (l .loop .i) (k .before .before .loop-test .taken)
-    (l .loop .inv .1) (sym (k .is-own .ensures) ∙ c .if1 .taken))
+    sym (found-here (isOwn (a .participant) (a .code)) (a .count) (a .t1) (l .loop .i)
+    (k .before .before .loop-test .taken) (l .loop .inv .1) (sym (k .is-own .ensures) ∙ c .if1 .taken))
 
 add-i : tie.Need-add-i Inv-loop μ-loop
 add-i c = omega arith
@@ -59,7 +59,7 @@ returns-2 c =
     let l = c .before in
     let a = l .before .args in
     let e : l .loop .i ≡ a .count = omega arith in
-    sym (ap (λ (n : ℕ). firstPlace (isOwn (a .participant) (a .code)) (firstOrders n (a .t1))) (sym e) ∙ l .loop .inv .1)
+    sym (l .loop .inv .1) ∙ ap (λ (n : ℕ). firstPlace (isOwn (a .participant) (a .code)) (firstOrders n (a .t1))) e
 
 pub find-spec : {M : Type 1} → statement M
 find-spec =

@@ -18,7 +18,9 @@ appended-requires : tie.Need-appended-requires
 appended-requires c κs =
     let b = c .before .before .before .before in
     let s = b .args .s in
-    let room = subst (λ (k : TimeInForce). Finishes (view s) k (b .args .rest)) (c .before .before .enum-told .given .1) (b .pre) in
+    let room =
+    subst (λ (k : TimeInForce). Finishes (view s) k (b .args .rest)) (c .before .before .enum-told .given .1)
+    (b .pre) in
     omega (arith, room, first-length (s .count) (s .orders))
 
 enum-told-2 : tie.Need-enum-told-2

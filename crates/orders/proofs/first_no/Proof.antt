@@ -1,6 +1,6 @@
 -- `orders::first_no` meets its contract: each question in its turn.
 use borrow.Author.Needs.{needs}
-use borrow.Author.Tests.{le-ltb, lt-ltb}
+use borrow.Author.Tests.{le-ltb, lt-ltb, not-false, not-true}
 use native.Mathlib.Omega.{arith}
 use Prim.Native.Nat.{ℕ, _<_}
 use mathlib.Core.Path.{_≡_, ap, sym, _∙_, subst}
@@ -56,7 +56,11 @@ returns-3 : tie.Need-returns-3
 unfolding orderQuestions
 returns-3 c =
     let e = c .before .before in
-    rw (lt-ltb _ _ (e .before .before .before .if1 .left), lt-ltb _ _ (e .if2 .left), fails (c .before .is-open .ensures) (c .if3 .taken))
+    rw (
+      lt-ltb _ _ (e .before .before .before .if1 .left),
+      lt-ltb _ _ (e .if2 .left),
+      fails (c .before .is-open .ensures) (c .if3 .taken),
+    )
 
 within-requires : tie.Need-within-requires
 within-requires c κs = search needs
@@ -146,14 +150,15 @@ covers-requires c κs =
     let b = start e in
     let a = b .args in
     subst (Reckonable (view (a .s))) (sym (c .entry-of .ensures))
-    (reckons (view (a .s)) (size b) (b .pre) (a .participant) (a .member) (e .before .before .before .if1 .left) (e .if2 .left)
-    (holds (o .before .is-open .ensures) (o .if3 .left)) (holds (w .before .within .ensures) (w .if4 .left))
+    (reckons (view (a .s)) (size b) (b .pre) (a .participant) (a .member) (e .before .before .before .if1 .left)
+    (e .if2 .left) (holds (o .before .is-open .ensures) (o .if3 .left)) (holds (w .before .within .ensures) (w .if4 .left))
     (holds (p .before .price-sound .ensures) (p .if5 .left)))
 
 -- question 14 is asked of the definition's entry
 asked : (c : tie.After-covers) →
     let b : tie.Start = start (named (priced (c .before .before .before .before .before .before))) in
-    c .covers .result ≡ covered (view (b .args .s)) (entryOf (view (b .args .s)) (b .args .participant) (b .args .member))
+    let d : Day = view (b .args .s) in
+    c .covers .result ≡ covered d (entryOf d (b .args .participant) (b .args .member))
 asked c =
     let b = start (named (priced (c .before .before .before .before .before .before))) in
     c .covers .ensures ∙ ap (covered (view (b .args .s))) (c .before .entry-of .ensures)
@@ -175,33 +180,29 @@ is-fillable-requires c κs =
     let b = start (named (priced (c .before .before .before .before .before .before .before))) in
     few-lots (b .args .s) (size b) (b .pre)
 
-returns-9 : tie.Need-returns-9
-returns-9 c =
-    let k = c .before .before .before in
+-- question 15 is the last, and asked of the same entry
+last : (c : tie.After-is-fillable) →
+    let b : tie.Start = start (named (priced (c .before .before .before .before .before .before .before .before))) in
+    orderNo (view (b .args .s)) (b .args .participant) (b .args .member) (b .args .force)
+    ≡ firstNo (ask 15 (c .is-fillable .result) ∷ [])
+last c =
+    let k = c .before .before in
     let l = k .before .before in
     let r = l .before .before in
-    let b = start (named (priced (r .before .before))) in
     rw (
       passed (r .before .before),
       holds (r .before .has-room .ensures) (r .if6 .left),
       lt-ltb _ _ (l .if7 .left),
-      holds (asked k) (c .before .before .if8 .left),
-      fails (c .before .is-fillable .ensures ∙ ap (fillable (b .args .force) (view (b .args .s))) (k .before .entry-of .ensures)) (c .if9 .taken),
+      holds (asked k) (c .before .if8 .left),
+      c .is-fillable .ensures,
+      k .before .entry-of .ensures,
     )
 
+returns-9 : tie.Need-returns-9
+returns-9 c = rw (last (c .before), not-true (c .before .is-fillable .result) (c .if9 .taken))
+
 returns-10 : tie.Need-returns-10
-returns-10 c =
-    let k = c .before .before .before in
-    let l = k .before .before in
-    let r = l .before .before in
-    let b = start (named (priced (r .before .before))) in
-    rw (
-      passed (r .before .before),
-      holds (r .before .has-room .ensures) (r .if6 .left),
-      lt-ltb _ _ (l .if7 .left),
-      holds (asked k) (c .before .before .if8 .left),
-      holds (c .before .is-fillable .ensures ∙ ap (fillable (b .args .force) (view (b .args .s))) (k .before .entry-of .ensures)) (c .if9 .left),
-    )
+returns-10 c = rw (last (c .before), not-false (c .before .is-fillable .result) (c .if9 .left))
 
 pub first-no-spec : {M : Type 1} → statement M
 first-no-spec =

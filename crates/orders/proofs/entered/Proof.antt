@@ -1,4 +1,4 @@
--- `orders::accepted` meets its contract: the order is admitted and matched, and what is left of it waits or is freed.
+-- `orders::entered` meets its contract: the order is admitted and matched, and what is left of it waits or is freed.
 use native.Mathlib.Omega.{arith}
 use mathlib.Core.Path.{ap, sym, subst}
 use borrow.Author.Tests.{ltb-true}
@@ -6,6 +6,7 @@ use Rattle.market.specs.declared.Order.{Order}
 use Rattle.market.specs.Limits.{maxCodes}
 use Rattle.market.specs.Day.{Day, Sized, view}
 use Rattle.market.specs.Positions.{blockFor}
+use Rattle.market.specs.Calls.{entryOf}
 use Rattle.market.specs.Entry.{admitted}
 use Rattle.market.proofs.Sized.{sized}
 use Rattle.matching.specs.Filling.{InFlight}
@@ -13,23 +14,28 @@ use Rattle.waiting.specs.Claims.{Admissible}
 use Rattle.orders.proofs.Allowing.{admissible, flies, same-count}
 use Rattle.orders.proofs.Accepting.{gives-entered, part, rest-finishes}
 use borrow.Author.Needs.{needs}
-use Rattle.orders.proofs.accepted.Statement.{statement}
-use Rattle.orders.proofs.accepted.Tie as tie
+use Rattle.orders.proofs.entered.Statement.{statement}
+use Rattle.orders.proofs.entered.Tie as tie
 
 size : (b : tie.Start) → Sized (view (b .args .s))
 size b = (sized (b .args .s) (b .good .0)) .day
 
+admits : (b : tie.Start) →
+    let d : Day = view (b .args .s) in
+    Admissible d (entryOf d (b .args .participant) (b .args .member))
+admits b =
+    let a = b .args in
+    admissible (view (a .s)) (size b) (b .pre .0) (a .participant) (a .member) (a .force) (b .pre .1)
+
 entry-of-requires : tie.Need-entry-of-requires
 entry-of-requires c κs =
     let b = c .before in
-    let a = admissible (view (b .args .s)) (size b) (b .pre .0) (b .args .participant) (b .args .member) (b .args .force) (b .pre .1) in
-    omega (arith, ltb-true (b .args .s .codes) maxCodes (a .code))
+    omega (arith, ltb-true (b .args .s .codes) maxCodes ((admits b) .code))
 
 admitted-requires : tie.Need-admitted-requires
 admitted-requires c κs =
     let b = c .before .before in
-    let a = admissible (view (b .args .s)) (size b) (b .pre .0) (b .args .participant) (b .args .member) (b .args .force) (b .pre .1) in
-    subst (Admissible (view (b .args .s))) (sym (c .entry-of .ensures)) a
+    subst (Admissible (view (b .args .s))) (sym (c .entry-of .ensures)) (admits b)
 
 fill-requires : tie.Need-fill-requires
 unfolding admitted blockFor
@@ -84,10 +90,11 @@ returns c =
     let a = b .args in
     gives-entered (view (a .s)) (size b) (b .pre .0) (a .participant) (a .member) (a .force) (b .pre .1)
     (k .entry-of .result) (k .entry-of .ensures) _ (f .before .before .admitted .ensures) _ _ _ (f .fill .ensures) _
-    (w .with-lots .ensures) _ _ (c .before .before .before .finished .ensures) (c .before .before .left-waiting .ensures)
+    (w .with-lots .ensures) _ _ (c .before .before .before .finished .ensures)
+    (c .before .before .left-waiting .ensures)
 
-pub accepted-spec : {M : Type 1} → statement M
-accepted-spec =
+pub entered-spec : {M : Type 1} → statement M
+entered-spec =
     tie.close
     (tie.spec
     entry-of-requires
