@@ -19,7 +19,8 @@ use Rattle.waiting.specs.Claims.{Leaves}
 use Rattle.waiting.proofs.Allowed.{good-leaves}
 
 -- a sound state's day is good
-pub state-good : {s : State} → SizedState s → sound (view s) ≡ true → Good ⊥ ((view s) .rules) (bookOf (view s)) (view s)
+pub state-good : {s : State} → SizedState s → sound (view s) ≡ true
+    → Good ⊥ ((view s) .rules) (bookOf (view s)) (view s)
 state-good {s} size e = sound-good (view s) (size .day) e
 
 -- the orders of s are still to leave; s₀ is the state at the start

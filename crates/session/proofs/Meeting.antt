@@ -9,11 +9,13 @@ use Rattle.market.specs.declared.Kind.the-variants as kind
 use Rattle.market.specs.declared.Order.{Order}
 use Rattle.market.specs.declared.Phase.the-variants.{Closing}
 use Rattle.market.specs.declared.Side.the-variants.{Buy, Sell}
-use Rattle.market.specs.Day.{Asset, Day, Rules, noOrder, orderAt, turnoverAt, withWaiting}
+use Rattle.market.specs.declared.State.{State}
+use Rattle.market.specs.Day.{Asset, Day, Rules, noOrder, orderAt, turnoverAt, view, withWaiting}
 use Rattle.market.specs.Needs.{closingPrice, limitOf, needAt}
 use Rattle.market.specs.Positions.{settle}
 use Rattle.market.specs.Sound.{isOpen, sound}
-use Rattle.market.specs.Matching.{Best, best, found, lotsAt, none}
+use Rattle.market.specs.TradeList.{tradeOf}
+use Rattle.market.specs.Matching.{Best, found, lotsAt, none}
 use Rattle.market.specs.Closing.{Paired, closingTerms, counterparty, followed, pairOne, pairedOff, pairs, pairsFrom}
 use Rattle.market.specs.Closing.{takeBoth}
 use Rattle.market.proofs.Logic.{never}
@@ -25,22 +27,16 @@ use Rattle.conservation.specs.Book.{Book}
 use Rattle.conservation.proofs.Good.{Good, KindOk, kinds-closing, needsOf}
 use Rattle.conservation.proofs.Pairs.{pair-good}
 use Rattle.conservation.proofs.Sound.{good-sound}
-use Rattle.matching.specs.Trading.{Settles}
+use Rattle.matching.specs.Trading.{Settles, waitingAt}
+use Rattle.matching.specs.Written.{tradeWritten}
 use Rattle.matching.proofs.Ready.{settles}
 use Rattle.waiting.proofs.Allowed.{limit-fits}
 use Rattle.session.specs.declared.Pair.the-variants.{At, Nothing}
-use Rattle.session.specs.Pairing.{pairOf}
+use Rattle.session.specs.Pairing.{PairDone, nextBuy, nextSell, pairOf, priceAt}
 
 -- the closing price of security s
 abbrev pub priceOn : Day → ℕ → ℕ
 priceOn d s = closingPrice (turnoverAt (d .turnover) s)
-
--- the next buy and sell of security s
-abbrev pub nextBuy : Day → ℕ → Best
-nextBuy d s = best (counterparty Sell s kind.Closing) (d .waiting)
-
-abbrev pub nextSell : Day → ℕ → Best
-nextSell d s = best (counterparty Buy s kind.Closing) (d .waiting)
 
 -- without a pair, the next security's turn has come
 pub no-pair : (d : Day) (m s : ℕ) → pairOf (nextBuy d s) (nextSell d s) ≡ Nothing
@@ -86,8 +82,12 @@ next-pair d m s i j h =
         let ea : a ≡ i = cc in
         let eb : b ≡ j = cc in
         record {
-          buys = subst (λ (k : ℕ). Meeting Buy s kind.Closing (d .waiting) k) ea (meets Buy s kind.Closing (d .waiting) a p cx);
-          sells = subst (λ (k : ℕ). Meeting Sell s kind.Closing (d .waiting) k) eb (meets Sell s kind.Closing (d .waiting) b q cy);
+          buys =
+              subst (λ (k : ℕ). Meeting Buy s kind.Closing (d .waiting) k) ea
+              (meets Buy s kind.Closing (d .waiting) a p cx);
+          sells =
+              subst (λ (k : ℕ). Meeting Sell s kind.Closing (d .waiting) k) eb
+              (meets Sell s kind.Closing (d .waiting) b q cy);
           rest =
               subst (λ (k : ℕ). pairsFrom closingTerms (suc m) s d
               ≡ followed (pairOne d k j (priceOn d s) (min (lotsAt d k) (lotsAt d j))) (pairsFrom closingTerms (suc m) s)) ea
@@ -129,16 +129,21 @@ module _ {U : Type 0} {r : Rules} {b : Book} {d : Day} (g : Good U r b d) (phase
   pub pair-sound : sound (pairedOff d i j (priceOn d s) n) ≡ true
   pair-sound =
       good-sound _ _
-      (pair-good b d g (λ h. never (ap isOpen (sym phase) ∙ ap isOpen h)) s kind.Closing (priceOn d s) i j n buys sells fair ni nj)
+      (pair-good b d g (λ h. never (ap isOpen (sym phase) ∙ ap isOpen h)) s kind.Closing (priceOn d s) i j n buys sells
+      fair ni nj)
 
   pub pair-shorter : min (lotsAt d i) (lotsAt d j) ≤ n → length (takeBoth (d .waiting) i j n) < length (d .waiting)
   pair-shorter h =
       (take-both (d .waiting) i j n (buys .inside) (sells .inside) (meet-apart s kind.Closing (d .waiting) i j buys sells))
       .shorter h
 
--- positions and waiting orders after a pair
-pub day-paired : (d : Day) (i j p n : ℕ) (q : Day) (w : List Order)
-    → q ≡ settle d (orderAt (d .waiting) i) (orderAt (d .waiting) j) p n → w ≡ takeBoth (d .waiting) i j n
-    → withWaiting q w ≡ pairedOff d i j p n
+-- the buy x and the sell y that the code reads trade at the price p that it reckons; q has the positions after it
+pub pair-done : (s : State) (i j n k : ℕ) (l l′ : List ℕ) (x y : Order) (p : ℕ) (q s′ : State) (w : List Order)
+    → x ≡ waitingAt s i → y ≡ waitingAt s j → p ≡ priceAt s i
+    → view q ≡ settle (view s) x y p n → w ≡ takeBoth ((view s) .waiting) i j n → view s′ ≡ withWaiting (view q) w
+    → l′ ≡ tradeWritten k (tradeOf ((view s) .rules) x y p n) l → PairDone s i j n k l l′ s′
 unfolding pairedOff
-day-paired d i j p n q w eq ew = rw (eq, ew)
+pair-done s i j n k l l′ x y p q s′ w ex ey ep settled off after written = record {
+  day = after ∙ ap (λ (d : Day). withWaiting d w) settled ∙ rw (off, ex, ey, ep);
+  list = written ∙ rw (ex, ey, ep);
+}

@@ -29,9 +29,11 @@ use Rattle.matching.specs.Trading.{Settles, waitingAt}
 use Rattle.matching.specs.Written.{tradeWritten}
 use Rattle.matching.proofs.Writing.{written-length, written-next, writtenFrom}
 use Rattle.session.specs.declared.Pair.the-variants.{At, Nothing}
-use Rattle.session.specs.Pairing.{PairDone, PairReady, SessionPaired, pairOf, priceAt, sessionPairs}
+use Rattle.session.specs.Pairing.{PairDone, PairReady, SessionPaired, nextBuy, nextSell, pairOf, priceAt}
+use Rattle.session.specs.Pairing.{sessionPairs}
 use Rattle.session.proofs.Leaving.{state-good}
-use Rattle.session.proofs.Meeting.{NextPair, next-pair, nextBuy, nextSell, no-pair, pair-settles, pair-shorter, pair-sound, priceOn}
+use Rattle.session.proofs.Meeting.{NextPair, next-pair, no-pair, pair-settles, pair-shorter}
+use Rattle.session.proofs.Meeting.{pair-sound, priceOn}
 
 -- the pairing that is left, from a security on
 abbrev pub restOf : State → ℕ → Day → Paired
@@ -72,162 +74,164 @@ rounds-start s l size e phase lent =
       list = ap (λ (x : Paired). written (x .trades) l) whole;
     }
 
-module _ {s₀ : State} {l₀ l : List ℕ} {s : State} {security lots made : ℕ} (g : Rounds s₀ l₀ l s security lots made) where
-  abbrev d : Day
-  d = view s
+module _ {s₀ : State} {l₀ l : List ℕ} {s : State} {security lots made : ℕ} (g : Rounds s₀ l₀ l s security lots made)
+  where
+    abbrev d : Day
+    d = view s
 
-  good : Good ⊥ (d .rules) (bookOf d) d
-  good = state-good (g .sized) (g .sound)
+    good : Good ⊥ (d .rules) (bookOf d) d
+    good = state-good (g .sized) (g .sound)
 
-  pub rounds-room : s .count ≤ maxWaiting
-  rounds-room = omega (arith, g .count, g .room)
+    pub rounds-room : s .count ≤ maxWaiting
+    rounds-room = omega (arith, g .count, g .room)
 
-  -- where no security is left, what the contract says holds
-  pub rounds-end : s₀ .securities ≤ security
-      → SessionPaired s₀ l₀ l (record { state = s; lots = lots; trades = made })
-  unfolding pairsFrom lotsOf
-  rounds-end h =
-      let none : s₀ .securities - security ≡ 0 = omega arith in
-      let over : restOf s₀ security d ≡ record { day = d; trades = [] } =
-      ap (λ (n : ℕ). pairsFrom closingTerms n security d) none in
-      record {
-        day = sym (ap (λ (x : Paired). x .day) over) ∙ g .day;
-        lots = omega (arith, g .sum, ap (λ (x : Paired). lotsOf (x .trades)) over);
-        trades = omega (arith, g .trades, ap (λ (x : Paired). length (x .trades)) over);
-        list =
-            sym (take-append-drop (numbersPerTrade * made) l)
-            ∙ sym (ap (λ (x : Paired). writtenFrom made (x .trades) l) over)
-            ∙ g .list;
-      }
-
-  module _ (more : security < s₀ .securities) where
-    abbrev after : ℕ
-    after = s₀ .securities - (security + 1)
-
-    split : s₀ .securities - security ≡ suc after
-    split = omega arith
-
-    -- no pair: the next security
-    pub rounds-skip : pairOf (nextBuy d security) (nextSell d security) ≡ Nothing
-        → Rounds s₀ l₀ l s (security + 1) lots made
-    rounds-skip h =
-        let same : restOf s₀ security d ≡ restOf s₀ (security + 1) d =
-        ap (λ (n : ℕ). pairsFrom closingTerms n security d) split
-        ∙ no-pair d after security h
-        ∙ ap (λ (k : ℕ). pairsFrom closingTerms after k d) (sym (add-one security)) in
+    -- where no security is left, what the contract says holds
+    pub rounds-end : s₀ .securities ≤ security
+        → SessionPaired s₀ l₀ l (record { state = s; lots = lots; trades = made })
+    unfolding pairsFrom lotsOf
+    rounds-end h =
+        let none : s₀ .securities - security ≡ 0 = omega arith in
+        let over : restOf s₀ security d ≡ record { day = d; trades = [] } =
+        ap (λ (n : ℕ). pairsFrom closingTerms n security d) none in
         record {
-          sized = g .sized;
-          sound = g .sound;
-          phase = g .phase;
-          room = g .room;
-          lent = g .lent;
-          long = g .long;
-          count = g .count;
-          few = g .few;
-          day = rw same at (g .day);
-          trades = rw same at (g .trades);
-          sum = rw same at (g .sum);
-          list = rw same at (g .list);
+          day = sym (ap (λ (x : Paired). x .day) over) ∙ g .day;
+          lots = omega (arith, g .sum, ap (λ (x : Paired). lotsOf (x .trades)) over);
+          trades = omega (arith, g .trades, ap (λ (x : Paired). length (x .trades)) over);
+          list =
+              sym (take-append-drop (numbersPerTrade * made) l)
+              ∙ sym (ap (λ (x : Paired). writtenFrom made (x .trades) l) over)
+              ∙ g .list;
         }
 
-    -- a pair trades
-    module _ (i j : ℕ) (h : pairOf (nextBuy d security) (nextSell d security) ≡ At i j) where
-      abbrev n : ℕ
-      n = min (lotsAt d i) (lotsAt d j)
+    module _ (more : security < s₀ .securities) where
+      abbrev after : ℕ
+      after = s₀ .securities - (security + 1)
 
-      next : NextPair d after security i j
-      next = next-pair d after security i j h
+      split : s₀ .securities - security ≡ suc after
+      split = omega arith
 
-      abbrev trade : Trade
-      trade = tradeOf (d .rules) (waitingAt s i) (waitingAt s j) (priceAt s i) n
+      -- no pair: the next security
+      pub rounds-skip : pairOf (nextBuy d security) (nextSell d security) ≡ Nothing
+          → Rounds s₀ l₀ l s (security + 1) lots made
+      rounds-skip h =
+          let same : restOf s₀ security d ≡ restOf s₀ (security + 1) d =
+          ap (λ (n : ℕ). pairsFrom closingTerms n security d) split
+          ∙ no-pair d after security h
+          ∙ ap (λ (k : ℕ). pairsFrom closingTerms after k d) (sym (add-one security)) in
+          record {
+            sized = g .sized;
+            sound = g .sound;
+            phase = g .phase;
+            room = g .room;
+            lent = g .lent;
+            long = g .long;
+            count = g .count;
+            few = g .few;
+            day = rw same at (g .day);
+            trades = rw same at (g .trades);
+            sum = rw same at (g .sum);
+            list = rw same at (g .list);
+          }
 
-      price : priceAt s i ≡ priceOn d security
-      price = ap (λ (k : ℕ). closingPrice (turnoverAt (d .turnover) k)) (sym (next .buys .security))
+      -- a pair trades
+      module _ (i j : ℕ) (h : pairOf (nextBuy d security) (nextSell d security) ≡ At i j) where
+        abbrev n : ℕ
+        n = min (lotsAt d i) (lotsAt d j)
 
-      step : restOf s₀ security d ≡ followed (pairOne d i j (priceAt s i) n) (restOf s₀ security)
-      step =
-          subst (λ (p : ℕ). restOf s₀ security d ≡ followed (pairOne d i j p n) (restOf s₀ security)) (sym price)
-          (subst (λ (k : ℕ). pairsFrom closingTerms k security d ≡ followed (pairOne d i j (priceOn d security) n)
-          (λ x. pairsFrom closingTerms k security x)) (sym split) (next .rest))
+        next : NextPair d after security i j
+        next = next-pair d after security i j h
 
-      pub rounds-buy : i < s .count
-      rounds-buy = omega (arith, next .buys .inside, first-length (s .count) (s .orders))
+        abbrev trade : Trade
+        trade = tradeOf (d .rules) (waitingAt s i) (waitingAt s j) (priceAt s i) n
 
-      pub rounds-sell : j < s .count
-      rounds-sell = omega (arith, next .sells .inside, first-length (s .count) (s .orders))
+        price : priceAt s i ≡ priceOn d security
+        price = ap (λ (k : ℕ). closingPrice (turnoverAt (d .turnover) k)) (sym (next .buys .security))
 
-      settles : Settles d (waitingAt s i) (waitingAt s j) (priceAt s i) n
-      settles =
-          subst (λ (p : ℕ). Settles d (waitingAt s i) (waitingAt s j) p n) (sym price)
-          (pair-settles good (g .phase) security i j n (next .buys) (next .sells) (omega arith) (omega arith))
+        step : restOf s₀ security d ≡ followed (pairOne d i j (priceAt s i) n) (restOf s₀ security)
+        step =
+            subst (λ (p : ℕ). restOf s₀ security d ≡ followed (pairOne d i j p n) (restOf s₀ security)) (sym price)
+            (subst (λ (k : ℕ). pairsFrom closingTerms k security d ≡ followed (pairOne d i j (priceOn d security) n)
+            (λ x. pairsFrom closingTerms k security x)) (sym split) (next .rest))
 
-      pub rounds-ready : PairReady s i j n made l
-      rounds-ready = record {
-        settles = settles;
-        buy = rounds-buy;
-        sell = rounds-sell;
-        apart = meet-apart security _ (d .waiting) i j (next .buys) (next .sells);
-        room = rounds-room;
-        lent = omega (arith, g .lent, g .long, g .count, g .room, rounds-buy);
-      }
+        pub rounds-buy : i < s .count
+        rounds-buy = omega (arith, next .buys .inside, first-length (s .count) (s .orders))
 
-      pub rounds-lots : lots + n ≤ maxLots * (made + 1)
-      rounds-lots =
-          omega (arith, g .few, (all-at (OrderOk (d .rules)) noOrder (d .waiting) i (good .orders) (next .buys .inside)) .top)
+        pub rounds-sell : j < s .count
+        rounds-sell = omega (arith, next .sells .inside, first-length (s .count) (s .orders))
 
-      -- what the code hands over: its lots, the state and the list after the trade
-      module _ {l′ : List ℕ} {s′ : State} {n′ : ℕ} (size : SizedState s′) (part : n′ ≡ n)
-          (done : PairDone s i j n′ made l l′ s′) where
-        day-after : view s′ ≡ pairedOff d i j (priceAt s i) n
-        day-after = done .day ∙ ap (pairedOff d i j (priceAt s i)) part
+        settles : Settles d (waitingAt s i) (waitingAt s j) (priceAt s i) n
+        settles =
+            subst (λ (p : ℕ). Settles d (waitingAt s i) (waitingAt s j) p n) (sym price)
+            (pair-settles good (g .phase) security i j n (next .buys) (next .sells) (omega arith) (omega arith))
 
-        pub rounds-less : s′ .count < s .count
-        unfolding pairedOff settle
-        rounds-less =
-            omega (
-              arith,
-              pair-shorter good (g .phase) security i j n (next .buys) (next .sells) (omega arith) (omega arith) (omega arith),
-              ap (λ (x : Day). length (x .waiting)) day-after,
-              first-length (s .count) (s .orders),
-              first-length (s′ .count) (s′ .orders),
-            )
+        pub rounds-ready : PairReady s i j n made l
+        rounds-ready = record {
+          settles = settles;
+          buy = rounds-buy;
+          sell = rounds-sell;
+          apart = meet-apart security _ (d .waiting) i j (next .buys) (next .sells);
+          room = rounds-room;
+          lent = omega (arith, g .lent, g .long, g .count, g .room, rounds-buy);
+        }
 
-        pub rounds-next : Rounds s₀ l₀ l′ s′ security (lots + n′) (made + 1)
-        unfolding lotsOf
-        rounds-next =
-            let listed : l′ ≡ tradeWritten made trade l =
-            done .list ∙ ap (λ (k : ℕ). tradeWritten made (tradeOf (d .rules) (waitingAt s i) (waitingAt s j) (priceAt s i) k) l) part in
-            let lent = rounds-ready .lent in
-            let rest = restOf s₀ security (view s′) in
-            let again : restOf s₀ security d ≡ record { day = rest .day; trades = trade ∷ rest .trades } =
-            step
-            ∙ ap (λ (x : Day). record {
-              day = (restOf s₀ security x) .day;
-              trades = trade ∷ (restOf s₀ security x) .trades;
-            }) (sym day-after) in
-            record {
-              sized = size;
-              sound =
-                  subst (λ (x : Day). sound x ≡ true) (sym (day-after ∙ ap (λ (p : ℕ). pairedOff d i j p n) price))
-                  (pair-sound good (g .phase) security i j n (next .buys) (next .sells) (omega arith) (omega arith));
-              phase = ap (λ (x : Day). x .phase) day-after ∙ phase-kept ∙ g .phase;
-              room = g .room;
-              lent = g .lent;
-              long = ap length listed ∙ written-length l made trade lent ∙ g .long;
-              count = omega (arith, g .count, rounds-less);
-              few = rw part rounds-lots;
-              day = sym (ap (λ (x : Paired). x .day) again) ∙ g .day;
-              trades = omega (arith, g .trades, ap (λ (x : Paired). length (x .trades)) again);
-              sum = omega (arith, part, g .sum, ap (λ (x : Paired). lotsOf (x .trades)) again);
-              list =
-                  ap (writtenFrom (made + 1) (rest .trades)) listed
-                  ∙ sym (written-next l made trade lent (rest .trades))
-                  ∙ sym (ap (λ (x : Paired). writtenFrom made (x .trades) l) again)
-                  ∙ g .list;
-            }
-          where
-            phase-kept : (pairedOff d i j (priceAt s i) n) .phase ≡ d .phase
-            phase-kept = unfold pairedOff settle in refl
+        pub rounds-lots : lots + n ≤ maxLots * (made + 1)
+        rounds-lots =
+            omega (arith, g .few, (all-at (OrderOk (d .rules)) noOrder (d .waiting) i (good .orders) (next .buys .inside)) .top)
+
+        -- what the code hands over: its lots, the state and the list after the trade
+        module _ {l′ : List ℕ} {s′ : State} {n′ : ℕ} (size : SizedState s′) (part : n′ ≡ n)
+            (done : PairDone s i j n′ made l l′ s′) where
+          day-after : view s′ ≡ pairedOff d i j (priceAt s i) n
+          day-after = done .day ∙ ap (pairedOff d i j (priceAt s i)) part
+
+          pub rounds-less : s′ .count < s .count
+          unfolding pairedOff settle
+          rounds-less =
+              omega (
+                arith,
+                pair-shorter good (g .phase) security i j n (next .buys) (next .sells) (omega arith) (omega arith) (omega arith),
+                ap (λ (x : Day). length (x .waiting)) day-after,
+                first-length (s .count) (s .orders),
+                first-length (s′ .count) (s′ .orders),
+              )
+
+          pub rounds-next : Rounds s₀ l₀ l′ s′ security (lots + n′) (made + 1)
+          unfolding lotsOf
+          rounds-next =
+              let listed : l′ ≡ tradeWritten made trade l =
+              done .list
+              ∙ ap (λ (k : ℕ). tradeWritten made (tradeOf (d .rules) (waitingAt s i) (waitingAt s j) (priceAt s i) k) l) part in
+              let lent = rounds-ready .lent in
+              let rest = restOf s₀ security (view s′) in
+              let again : restOf s₀ security d ≡ record { day = rest .day; trades = trade ∷ rest .trades } =
+              step
+              ∙ ap (λ (x : Day). record {
+                day = (restOf s₀ security x) .day;
+                trades = trade ∷ (restOf s₀ security x) .trades;
+              }) (sym day-after) in
+              record {
+                sized = size;
+                sound =
+                    subst (λ (x : Day). sound x ≡ true) (sym (day-after ∙ ap (λ (p : ℕ). pairedOff d i j p n) price))
+                    (pair-sound good (g .phase) security i j n (next .buys) (next .sells) (omega arith) (omega arith));
+                phase = ap (λ (x : Day). x .phase) day-after ∙ phase-kept ∙ g .phase;
+                room = g .room;
+                lent = g .lent;
+                long = ap length listed ∙ written-length l made trade lent ∙ g .long;
+                count = omega (arith, g .count, rounds-less);
+                few = rw part rounds-lots;
+                day = sym (ap (λ (x : Paired). x .day) again) ∙ g .day;
+                trades = omega (arith, g .trades, ap (λ (x : Paired). length (x .trades)) again);
+                sum = omega (arith, part, g .sum, ap (λ (x : Paired). lotsOf (x .trades)) again);
+                list =
+                    ap (writtenFrom (made + 1) (rest .trades)) listed
+                    ∙ sym (written-next l made trade lent (rest .trades))
+                    ∙ sym (ap (λ (x : Paired). writtenFrom made (x .trades) l) again)
+                    ∙ g .list;
+              }
+            where
+              phase-kept : (pairedOff d i j (priceAt s i) n) .phase ≡ d .phase
+              phase-kept = unfold pairedOff settle in refl
 
 -- the day after the pairing is sound
 pub paired-sound : (s s′ : State) → SizedState s → sound (view s) ≡ true → s .phase ≡ Closing

@@ -3,18 +3,27 @@ use Prim.Native.Nat.{ℕ, _+_, _*_, _≤_, _<_}
 use mathlib.Core.Path.{_≡_}
 use mathlib.Core.List.{List}
 use lib.ListN.{length}
+use Rattle.market.specs.declared.Kind.the-variants as kind
+use Rattle.market.specs.declared.Side.the-variants.{Buy, Sell}
 use Rattle.market.specs.declared.State.{State}
 use Rattle.market.specs.Limits.{maxWaiting, numbersPerTrade}
-use Rattle.market.specs.Day.{turnoverAt, view}
+use Rattle.market.specs.Day.{Day, turnoverAt, view}
 use Rattle.market.specs.Needs.{closingPrice}
 use Rattle.market.specs.TradeList.{lotsOf, tradeOf, written}
-use Rattle.market.specs.Matching.{Best, found, none}
-use Rattle.market.specs.Closing.{Paired, closingTerms, pairedOff, pairsFrom}
+use Rattle.market.specs.Matching.{Best, best, found, none}
+use Rattle.market.specs.Closing.{Paired, closingTerms, counterparty, pairedOff, pairsFrom}
 use Rattle.matching.specs.Trading.{Settles, waitingAt}
 use Rattle.matching.specs.Written.{tradeWritten}
 use Rattle.session.specs.declared.Pair.{Pair}
 use Rattle.session.specs.declared.Pair.the-variants.{At, Nothing}
 use Rattle.session.specs.declared.Pairing.{Pairing}
+
+-- the first closing buy, and the first closing sell, of security s
+abbrev pub nextBuy : Day → ℕ → Best
+nextBuy d s = best (counterparty Sell s kind.Closing) (d .waiting)
+
+abbrev pub nextSell : Day → ℕ → Best
+nextSell d s = best (counterparty Buy s kind.Closing) (d .waiting)
 
 -- a pair needs both sides
 abbrev pub pairOf : Best → Best → Pair

@@ -35,7 +35,6 @@ ghost use Prim.Native.Nat.{_≤_, _<_};
 ghost use lib.ListN.{length};
 ghost use Rattle.market.specs.declared.Kind.the-variants.{Closing as closingKind};
 ghost use Rattle.market.specs.declared.Phase.the-variants.{Closing as closingPhase};
-ghost use Rattle.market.specs.declared.Side.the-variants.{Buy, Sell};
 ghost use Rattle.market.specs.Limits.{lentAtLeast, maxCodes, maxWaiting};
 ghost use Rattle.market.specs.Day.{firstOrders, view, withPhase};
 ghost use Rattle.market.specs.Waiting.{allLeave, takeOff};
@@ -46,7 +45,7 @@ ghost use Rattle.market.specs.Matching.{best};
 ghost use Rattle.market.specs.Closing.{counterparty, takeBoth};
 ghost use Rattle.market.specs.Contract.{Does};
 ghost use Rattle.matching.specs.Search.{bestOf};
-ghost use Rattle.session.specs.Pairing.{PairDone, PairReady, SessionPaired, pairOf};
+ghost use Rattle.session.specs.Pairing.{PairDone, PairReady, SessionPaired, nextBuy, nextSell, pairOf};
 
 // The places of a buy and a sell that trade next.
 enum Pair {
@@ -208,7 +207,7 @@ fn first_against(s: State, side: Side, security: u64) -> Found
 // The first buy and the first sell of a security, if there are both.
 fn next_pair(s: State, security: u64) -> Pair
     requires { ⌜ s .count ≤ maxWaiting ⌝ }
-    ensures { λ r. ⌜ r ≡ pairOf (best (counterparty Sell security closingKind) ((view s) .waiting)) (best (counterparty Buy security closingKind) ((view s) .waiting)) ⌝ }
+    ensures { λ r. ⌜ r ≡ pairOf (nextBuy (view s) security) (nextSell (view s) security) ⌝ }
 {
     let buy = first_against(s, Side::Sell, security);
     let sell = first_against(s, Side::Buy, security);

@@ -46,7 +46,8 @@ abbrev pub stored : Day → Order → Claim → Position → Day
 stored d o c p = withPositions (assetOf (o .side)) d (set (positions (assetOf (o .side)) d) (c .at) p)
 
 module _ (d : Day) (o : Order) (c : Claim) (claim : Claimed d o c) where
-  pub day-admitted : (q : Day) → q ≡ stored d o c (block (c .need) (c .position)) → withCodes q (d .codes + 1) ≡ admitted d o
+  pub day-admitted : (q : Day) → q ≡ stored d o c (block (c .need) (c .position))
+      → withCodes q (d .codes + 1) ≡ admitted d o
   unfolding admitted blockFor change
   day-admitted q e = rw (e, claim .position, claim .need, claim .at)
 
@@ -64,8 +65,8 @@ module _ (d : Day) (o : Order) (c : Claim) (claim : Claimed d o c) where
   pub room-to-free : Freeable d o → (c .need ≤ (c .position) .blocked) × ((c .position) .free + c .need ≤ moneyLimit)
   room-to-free a = rw (claim .position, claim .need) (a .blocked, omega (arith, a .blocked, a .within))
 
-pub day-left : (d : Day) (i : ℕ) (o : Order) (q : Day) (w : List Order) → o ≡ orderAt (d .waiting) i → q ≡ releaseFor d o
-    → w ≡ removeAt (d .waiting) i → withWaiting q w ≡ leave d i
+pub day-left : (d : Day) (i : ℕ) (o : Order) (q : Day) (w : List Order) → o ≡ orderAt (d .waiting) i
+    → q ≡ releaseFor d o → w ≡ removeAt (d .waiting) i → withWaiting q w ≡ leave d i
 unfolding leave
 day-left d i o q w eo eq ew = rw (eq, ew, eo)
 

@@ -26,7 +26,8 @@ loop-less c =
 loop-again : tie.Need-loop-again Inv-loop μ-loop
 loop-again c =
     let t = c .before in
-    leaving-next (t .before .before .loop .inv) (t .if1 .taken) (c .left .result) (c .left .ensures) (sized (c .left .result) (c .left .ok))
+    leaving-next (t .before .before .loop .inv) (t .if1 .taken) (c .left .result) (c .left .ensures)
+    (sized (c .left .result) (c .left .ok))
 
 with-phase-requires : tie.Need-with-phase-requires Inv-loop μ-loop
 with-phase-requires c κs = tt
@@ -34,7 +35,8 @@ with-phase-requires c κs = tt
 returns : tie.Need-returns Inv-loop μ-loop
 returns c =
     let t = c .before in
-    c .with-phase .ensures ∙ leaving-ends (t .before .before .loop .inv) (t .if1 .left) (t .before .before .before .args .phase)
+    let l = t .before .before in
+    c .with-phase .ensures ∙ leaving-ends (l .loop .inv) (t .if1 .left) (l .before .args .phase)
 
 pub all-left-spec : {M : Type 1} → statement M
 all-left-spec =

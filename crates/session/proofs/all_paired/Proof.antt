@@ -10,9 +10,9 @@ use Rattle.market.proofs.Sized.{sized}
 use Rattle.matching.specs.Trading.{waitingAt}
 use Rattle.matching.proofs.First.{first-at}
 use Rattle.session.specs.declared.Pair.the-variants.{At}
-use Rattle.session.specs.Pairing.{pairOf}
-use Rattle.session.proofs.Meeting.{nextBuy, nextSell}
-use Rattle.session.proofs.Rounds.{Rounds, rounds-buy, rounds-end, rounds-less, rounds-lots, rounds-next, rounds-ready, rounds-room, rounds-sell, rounds-skip, rounds-start}
+use Rattle.session.specs.Pairing.{nextBuy, nextSell, pairOf}
+use Rattle.session.proofs.Rounds.{Rounds, rounds-buy, rounds-end, rounds-less, rounds-lots, rounds-next}
+use Rattle.session.proofs.Rounds.{rounds-ready, rounds-room, rounds-sell, rounds-skip, rounds-start}
 use Rattle.session.proofs.all_paired.Statement.{statement}
 use Rattle.session.proofs.all_paired.Tie as tie
 
@@ -26,38 +26,42 @@ abbrev μ-loop : tie.MeasureT-loop
 
 -- the places that are found
 pair : (c : tie.After-known-told Inv-loop μ-loop) →
-    pairOf (nextBuy (view (c .before .before .before .before .before .loop .state)) (c .before .before .before .before .before .loop .security))
-    (nextSell (view (c .before .before .before .before .before .loop .state)) (c .before .before .before .before .before .loop .security))
+    let h : tie.At-loop Inv-loop μ-loop = c .before .before .before .before .before in
+    pairOf (nextBuy (view (h .loop .state)) (h .loop .security)) (nextSell (view (h .loop .state)) (h .loop .security))
     ≡ At (c .before .pair .given .0 .0) (c .before .pair .given .0 .1 .0)
 pair c = sym (c .before .before .before .next-pair .ensures) ∙ c .before .pair .given .1
 
 buy-inside : (c : tie.After-known-told Inv-loop μ-loop) → c .before .pair .given .0 .0 < maxWaiting
 buy-inside c =
-    let l = c .before .before .before .before .before .loop in
-    omega (arith, rounds-room (l .inv), rounds-buy (l .inv) (c .before .before .before .before .loop-test .taken) _ _ (pair c))
+    let t = c .before .before .before .before in
+    let g = t .before .loop .inv in
+    omega (arith, rounds-room g, rounds-buy g (t .loop-test .taken) _ _ (pair c))
 
 sell-inside : (c : tie.After-known-told Inv-loop μ-loop) → c .before .pair .given .0 .1 .0 < maxWaiting
 sell-inside c =
-    let l = c .before .before .before .before .before .loop in
-    omega (arith, rounds-room (l .inv), rounds-sell (l .inv) (c .before .before .before .before .loop-test .taken) _ _ (pair c))
+    let t = c .before .before .before .before in
+    let g = t .before .loop .inv in
+    omega (arith, rounds-room g, rounds-sell g (t .loop-test .taken) _ _ (pair c))
 
 -- the lots of the trade are the definition's
 part : (c : tie.After-lesser Inv-loop μ-loop) →
+    let k : tie.After-known-told Inv-loop μ-loop = c .before .before .before in
+    let h : tie.At-loop Inv-loop μ-loop = k .before .before .before .before .before in
     c .lesser .result
-    ≡ min ((waitingAt (c .before .before .before .before .before .before .before .before .loop .state) (c .before .before .before .before .pair .given .0 .0)) .lots)
-    ((waitingAt (c .before .before .before .before .before .before .before .before .loop .state) (c .before .before .before .before .pair .given .0 .1 .0)) .lots)
+    ≡ min ((waitingAt (h .loop .state) (k .before .pair .given .0 .0)) .lots)
+    ((waitingAt (h .loop .state) (k .before .pair .given .0 .1 .0)) .lots)
 part c =
     let k = c .before .before .before in
-    let l = k .before .before .before .before .before .loop in
-    let more = k .before .before .before .before .loop-test .taken in
-    let s = l .state in
+    let t = k .before .before .before .before in
+    let g = t .before .loop .inv in
+    let s = t .before .loop .state in
     let i = k .before .pair .given .0 .0 in
     let j = k .before .pair .given .0 .1 .0 in
     c .lesser .ensures
     ∙ ap (λ (o : Order). min (o .lots) ((orderAt (s .orders) j) .lots))
-    (sym (first-at (s .count) (s .orders) i (rounds-buy (l .inv) more i j (pair k))))
+    (sym (first-at (s .count) (s .orders) i (rounds-buy g (t .loop-test .taken) i j (pair k))))
     ∙ ap (λ (o : Order). min ((waitingAt s i) .lots) (o .lots))
-    (sym (first-at (s .count) (s .orders) j (rounds-sell (l .inv) more i j (pair k))))
+    (sym (first-at (s .count) (s .orders) j (rounds-sell g (t .loop-test .taken) i j (pair k))))
 
 loop-holds : tie.Need-loop-holds Inv-loop μ-loop
 loop-holds c =
@@ -79,7 +83,8 @@ loop-less c = omega (arith, c .before .before .before .loop-test .taken)
 loop-again : tie.Need-loop-again Inv-loop μ-loop
 loop-again c =
     let n = c .before .before in
-    rounds-skip (n .before .before .loop .inv) (n .before .loop-test .taken) (sym (n .next-pair .ensures) ∙ c .enum-told .given .1)
+    rounds-skip (n .before .before .loop .inv) (n .before .loop-test .taken)
+    (sym (n .next-pair .ensures) ∙ c .enum-told .given .1)
 
 enum-known-pair : tie.Need-enum-known-pair Inv-loop μ-loop
 enum-known-pair c = search needs
@@ -102,16 +107,16 @@ lesser-requires c κs = tt
 pair-at-requires : tie.Need-pair-at-requires Inv-loop μ-loop
 pair-at-requires c κs =
     let k = c .before .before .before .before in
-    rw (part (c .before))
-    (rounds-ready (k .before .before .before .before .before .loop .inv) (k .before .before .before .before .loop-test .taken) _ _ (pair k))
+    let t = k .before .before .before .before in
+    rw (part (c .before)) (rounds-ready (t .before .loop .inv) (t .loop-test .taken) _ _ (pair k))
 
 add-lots : tie.Need-add-lots Inv-loop μ-loop
 add-lots c =
     let e = c .before .before .before .before in
     let k = e .before .before .before in
-    let l = k .before .before .before .before .before .loop in
-    let more = k .before .before .before .before .loop-test .taken in
-    omega (arith, part e, rounds-lots (l .inv) more _ _ (pair k), l .inv .count, l .inv .room)
+    let t = k .before .before .before .before in
+    let g = t .before .loop .inv in
+    omega (arith, part e, rounds-lots g (t .loop-test .taken) _ _ (pair k), g .count, g .room)
 
 add-made : tie.Need-add-made Inv-loop μ-loop
 add-made c =
@@ -122,19 +127,22 @@ loop-less-2 : tie.Need-loop-less-2 Inv-loop μ-loop
 loop-less-2 c =
     let e = c .before .before .before .before in
     let k = e .before .before .before in
-    let l = k .before .before .before .before .before .loop in
-    let more = k .before .before .before .before .loop-test .taken in
-    let t = c .before .before .pair-at in
-    omega (arith, rounds-less (l .inv) more _ _ (pair k) (sized (t .result) (t .ok)) (part e) (t .ensures))
+    let t = k .before .before .before .before in
+    let g = t .before .loop .inv in
+    let p = c .before .before .pair-at in
+    omega (
+      arith,
+      rounds-less g (t .loop-test .taken) _ _ (pair k) (sized (p .result) (p .ok)) (part e) (p .ensures),
+    )
 
 loop-again-2 : tie.Need-loop-again-2 Inv-loop μ-loop
 loop-again-2 c =
     let e = c .before .before .before .before in
     let k = e .before .before .before in
-    let l = k .before .before .before .before .before .loop in
-    let more = k .before .before .before .before .loop-test .taken in
-    let t = c .before .before .pair-at in
-    rounds-next (l .inv) more _ _ (pair k) (sized (t .result) (t .ok)) (part e) (t .ensures)
+    let t = k .before .before .before .before in
+    let g = t .before .loop .inv in
+    let p = c .before .before .pair-at in
+    rounds-next g (t .loop-test .taken) _ _ (pair k) (sized (p .result) (p .ok)) (part e) (p .ensures)
 
 same-length : tie.Need-same-length Inv-loop μ-loop
 same-length c = c .before .loop .inv .long

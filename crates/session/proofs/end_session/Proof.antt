@@ -56,7 +56,8 @@ all-left-requires c κs =
     let k = c .before .before .before in
     let e = k .before .before in
     let b = e .before .before .before .before in
-    paired-sound (b .args .s) (k .all-paired .result .state) (sized (b .args .s) (b .good .0)) (b .pre) (closing e) (k .all-paired .ensures .day)
+    paired-sound (b .args .s) (k .all-paired .result .state) (sized (b .args .s) (b .good .0)) (b .pre) (closing e)
+    (k .all-paired .ensures .day)
 
 same-length : tie.Need-same-length
 same-length c = search needs

@@ -1,14 +1,10 @@
 -- `session::enter_closing_order` meets its contract: what no question refuses is admitted and waits.
-use mathlib.Core.Path.{_≡_, refl, ap, sym, _∙_}
-use mathlib.Core.List.{[]}
-use Rattle.market.specs.declared.Order.{Order}
+use mathlib.Core.Path.{_≡_, sym, _∙_}
 use Rattle.market.specs.Day.{view}
-use Rattle.market.specs.Questions.{closingQuestions, firstNo, questions}
-use Rattle.market.specs.Entry.{placed}
-use Rattle.market.specs.Step.{effect}
+use Rattle.market.specs.Questions.{closingQuestions, firstNo}
 use Rattle.market.proofs.Sized.{sized}
-use Rattle.market.proofs.Step.{does-accept}
-use Rattle.session.proofs.Asking.{admitted-room, closing-admits, closing-room, codes-fit, day-placed, does-refused}
+use Rattle.session.proofs.Asking.{admitted-room, closing-accepted, closing-admits, closing-refused}
+use Rattle.session.proofs.Asking.{closing-room, codes-fit}
 use Rattle.session.proofs.Leaving.{state-good}
 use borrow.Author.Needs.{needs}
 use Rattle.session.proofs.enter_closing_order.Statement.{statement}
@@ -27,10 +23,10 @@ refused-requires : tie.Need-refused-requires
 refused-requires c κs = search needs
 
 returns : tie.Need-returns
-unfolding questions
 returns c =
     let b = c .before .before .before in
-    does-refused (b .args .s) [] _ _ _ (rw (b .pre) (sym (c .before .before .first-no .ensures))) (c .before .if1 .taken) (c .refused .ensures)
+    closing-refused (b .args .s) (b .args .participant) (b .args .side) (b .args .security) (b .args .lots) (b .pre) _ _
+    (c .before .before .first-no .ensures) (c .before .if1 .taken) (c .refused .ensures)
 
 closing-order-requires : tie.Need-closing-order-requires
 closing-order-requires c κs =
@@ -51,17 +47,12 @@ appended-requires c κs =
     admitted-room (b .args .s) (c .admitted .result) _ (c .admitted .ensures) (closing-room _ _ _ _ _ (all-answered e))
 
 returns-2 : tie.Need-returns-2
-unfolding questions effect placed
 returns-2 c =
     let o = c .before .before in
     let b = o .before .before .before in
-    let d = view (b .args .s) in
-    does-accept (b .args .s) (c .appended .result) [] [] _ _ (rw (b .pre) (all-answered (o .before)))
-    (rw (o .closing-order .ensures))
-    (c .appended .ensures
-    ∙ day-placed d (o .closing-order .result) (view (c .before .admitted .result)) (c .before .admitted .ensures)
-    ∙ ap (λ (x : Order). (placed d x) .day) (o .closing-order .ensures))
-    refl tt
+    closing-accepted (b .args .s) (b .args .participant) (b .args .side) (b .args .security) (b .args .lots) (b .pre)
+    (c .before .admitted .result) (c .appended .result) (o .closing-order .result) (all-answered (o .before))
+    (o .closing-order .ensures) (c .before .admitted .ensures) (c .appended .ensures)
 
 pub enter-closing-order-spec : {M : Type 1} → statement M
 enter-closing-order-spec =

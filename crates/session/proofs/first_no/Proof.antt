@@ -11,47 +11,62 @@ use Rattle.market.specs.Sound.{hasTraded}
 use Rattle.market.specs.Questions.{closingQuestions, firstNo}
 use Rattle.market.proofs.Sized.{sized}
 use Rattle.market.proofs.View.{first-length}
+use Rattle.conservation.proofs.Good.{Good}
+use Rattle.conservation.proofs.Sound.{bookOf}
 use Rattle.amounts.proofs.Answers.{fails, holds}
-use Rattle.session.proofs.Asking.{closing-reckons, later-no, laterQuestions}
+use Rattle.session.proofs.Asking.{FirstYes, closing-reckons, later-no, laterQuestions}
 use Rattle.session.proofs.Leaving.{state-good}
 use borrow.Author.Needs.{needs}
 use Rattle.session.proofs.first_no.Statement.{statement}
 use Rattle.session.proofs.first_no.Tie as tie
 
--- questions 4 to 7 are answered "yes"
-yes4 : (c : tie.Else1) → known (c .before .before .args .participant) (c .before .before .args .s .participants) ≡ true
+yes4 : (c : tie.Else1) →
+    let b : tie.Start = c .before .before in
+    known (b .args .participant) (b .args .s .participants) ≡ true
 yes4 c = lt-ltb _ _ (c .if1 .left)
 
-yes5 : (c : tie.Else2) → known (c .before .before .before .before .args .security) (c .before .before .before .before .args .s .securities) ≡ true
+yes5 : (c : tie.Else2) →
+    let b : tie.Start = c .before .before .before .before in
+    known (b .args .security) (b .args .s .securities) ≡ true
 yes5 c = lt-ltb _ _ (c .if2 .left)
 
 abbrev start : tie.Else4 → tie.Start
 start c = c .before .before .before .before .before .before .before .before
+
+first-yes : (c : tie.Else4) →
+    let b : tie.Start = start c in
+    FirstYes (view (b .args .s)) (b .args .participant) (b .args .security) (b .args .lots)
+first-yes c =
+    let e3 = c .before .before in
+    let e2 = e3 .before .before in
+    record {
+      participant = yes4 (e2 .before .before);
+      security = yes5 e2;
+      phase = holds (e3 .before .is-closing .ensures) (e3 .if3 .left);
+      lots = holds (c .before .within .ensures) (c .if4 .left);
+    }
 
 passed : (c : tie.Else4) →
     let b : tie.Start = start c in
     firstNo (closingQuestions (view (b .args .s)) (b .args .participant) (b .args .side) (b .args .security) (b .args .lots))
     ≡ firstNo (laterQuestions (view (b .args .s)) (b .args .participant) (b .args .side) (b .args .security) (b .args .lots))
 passed c =
-    let e3 = c .before .before in
-    let e2 = e3 .before .before in
-    let b = start c in
-    later-no (view (b .args .s)) (b .args .participant) (b .args .side) (b .args .security) (b .args .lots)
-    (yes4 (e2 .before .before)) (yes5 e2) (holds (e3 .before .is-closing .ensures) (e3 .if3 .left))
-    (holds (c .before .within .ensures) (c .if4 .left))
+    let a = (start c) .args in
+    later-no (view (a .s)) (a .participant) (a .side) (a .security) (a .lots) (first-yes c)
 
-known-there : (c : tie.Else4) → (start c) .args .security < maxSecurities
-known-there c =
-    let b = start c in
-    let ok = (state-good (sized (b .args .s) (b .good .0)) (b .pre)) .agree .rulesOk in
-    omega (arith, ok .securities, c .before .before .before .before .if2 .left)
+good : (b : tie.Start) → Good ⊥ ((view (b .args .s)) .rules) (bookOf (view (b .args .s))) (view (b .args .s))
+good b = state-good (sized (b .args .s) (b .good .0)) (b .pre)
+
+inside : (c : tie.Else4) → (start c) .args .security < maxSecurities
+inside c = omega (arith, (good (start c)) .agree .rulesOk .securities, c .before .before .before .before .if2 .left)
 
 positive : (n : ℕ) → (n ≡ 0 → ⊥) → 0 < n
 positive zero h = absurd (h refl)
 positive (suc n) h = omega arith
 
--- and 11
-yes11 : (c : tie.Else5) → hasTraded (turnoverAt ((start (c .before .before .before .before)) .args .s .turnover) ((start (c .before .before .before .before)) .args .security)) ≡ true
+yes11 : (c : tie.Else5) →
+    let b : tie.Start = start (c .before .before .before .before) in
+    hasTraded (turnoverAt (b .args .s .turnover) (b .args .security)) ≡ true
 yes11 c = lt-ltb _ _ (positive _ (c .if5 .left))
 
 returns : tie.Need-returns
@@ -87,10 +102,10 @@ returns-4 c =
     )
 
 mul-turnover : tie.Need-mul-turnover
-mul-turnover c = omega (arith, known-there (c .before))
+mul-turnover c = omega (arith, inside (c .before))
 
 array-copy-out-turnover : tie.Need-array-copy-out-turnover
-array-copy-out-turnover c = known-there (c .before)
+array-copy-out-turnover c = inside (c .before)
 
 returns-5 : tie.Need-returns-5
 returns-5 c =
@@ -106,23 +121,25 @@ returns-7 : tie.Need-returns-7
 returns-7 c =
     let e6 = c .before .before in
     let e5 = e6 .before in
-    rw (passed (e5 .before .before .before .before), yes11 e5, first-length _ _, lt-ltb _ _ (e6 .if6 .left), le-ltb _ _ (c .if7 .taken))
+    rw (
+      passed (e5 .before .before .before .before),
+      yes11 e5,
+      first-length _ _,
+      lt-ltb _ _ (e6 .if6 .left),
+      le-ltb _ _ (c .if7 .taken),
+    )
 
 closing-order-requires : tie.Need-closing-order-requires
 closing-order-requires c κs = search needs
 
 covers-requires : tie.Need-covers-requires
 covers-requires c κs =
-    let e7 = c .before in
-    let e5 = e7 .before .before .before in
+    let e5 = c .before .before .before .before in
     let e4 = e5 .before .before .before .before in
-    let e3 = e4 .before .before in
-    let e2 = e3 .before .before in
-    let b = start e4 in
+    let a = (start e4) .args in
     rw (c .closing-order .ensures)
-    (closing-reckons (view (b .args .s)) (b .args .participant) (b .args .side) (b .args .security) (b .args .lots)
-    (state-good (sized (b .args .s) (b .good .0)) (b .pre)) (yes4 (e2 .before .before)) (yes5 e2)
-    (holds (e3 .before .is-closing .ensures) (e3 .if3 .left)) (holds (e4 .before .within .ensures) (e4 .if4 .left)) (yes11 e5))
+    (closing-reckons (view (a .s)) (a .participant) (a .side) (a .security) (a .lots) (good (start e4)) (first-yes e4)
+    (yes11 e5))
 
 returns-8 : tie.Need-returns-8
 returns-8 c =

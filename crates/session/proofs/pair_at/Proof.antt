@@ -1,15 +1,15 @@
 -- `session::pair_at` meets its contract: the trade is written, settled, and its lots come off both orders.
 use Prim.Native.Nat.{_<_}
 use native.Mathlib.Omega.{arith}
-use mathlib.Core.Path.{_≡_, ap, sym, _∙_}
+use mathlib.Core.Path.{_≡_, refl, ap, sym, _∙_}
 use Rattle.market.specs.declared.Order.{Order}
 use Rattle.market.specs.Limits.{columns}
-use Rattle.market.specs.Day.{orderAt, turnoverAt, view}
+use Rattle.market.specs.Day.{orderAt, turnoverAt}
 use Rattle.market.specs.Needs.{closingPrice}
 use Rattle.matching.specs.Trading.{waitingAt}
 use Rattle.matching.proofs.First.{first-at}
 use Rattle.session.specs.Pairing.{priceAt}
-use Rattle.session.proofs.Meeting.{day-paired}
+use Rattle.session.proofs.Meeting.{pair-done}
 use borrow.Author.Needs.{needs}
 use Rattle.session.proofs.pair_at.Statement.{statement}
 use Rattle.session.proofs.pair_at.Tie as tie
@@ -25,7 +25,8 @@ known : (c : tie.Start) → (orderAt (c .args .s .orders) (c .args .i)) .securit
 known c = rw (buys c) (c .pre .settles .security)
 
 price : (c : tie.After-closing-price) →
-    c .closing-price .result ≡ priceAt (c .before .before .before .before .before .before .before .args .s) (c .before .before .before .before .before .before .before .args .i)
+    let b : tie.Start = c .before .before .before .before .before .before .before in
+    c .closing-price .result ≡ priceAt (b .args .s) (b .args .i)
 price c =
     let b = c .before .before .before .before .before .before .before in
     c .closing-price .ensures
@@ -83,15 +84,9 @@ returns c =
     let k = c .before .before .before .before .before .before .before .before .before in
     let b = k .before .before .before .before .before .before .before in
     let a = b .args in
-    record {
-      day =
-          day-paired (view (a .s)) (a .i) (a .j) (priceAt (a .s) (a .i)) (a .lots) (view (c .settle .result)) _
-          (c .settle .ensures ∙ rw (buys b, sells b, price k))
-          (c .before .before .taken-both .ensures);
-      list =
-          c .before .before .before .before .before .write-trade .ensures
-          ∙ rw (buys b, sells b, price k);
-    }
+    pair-done (a .s) (a .i) (a .j) (a .lots) (a .number) _ _ _ _ _ (c .settle .result) _ _ (buys b) (sells b) (price k)
+    (c .settle .ensures) (c .before .before .taken-both .ensures) refl
+    (c .before .before .before .before .before .write-trade .ensures)
 
 pub pair-at-spec : {M : Type 1} → statement M
 pair-at-spec =

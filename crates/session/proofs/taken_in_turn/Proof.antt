@@ -1,4 +1,5 @@
 -- `session::taken_in_turn` meets its contract: lots off the later place leave the earlier one where it is.
+use Prim.Native.Nat.{_<_}
 use native.Mathlib.Omega.{arith}
 use mathlib.Core.Path.{ap, _∙_}
 use mathlib.Core.List.{List}
@@ -21,7 +22,8 @@ taken-off-requires-2 c κs =
     let b = c .before .before in
     let a = b .args in
     let w = firstOrders (a .count) (a .orders) in
-    let inside = length-takeOff w (a .earlier) (a .later) (a .lots) (b .pre .0) (omega (arith, first-length (a .count) (a .orders), b .pre .1)) in (
+    let later : a .later < length w = omega (arith, first-length (a .count) (a .orders), b .pre .1) in
+    let inside = length-takeOff w (a .earlier) (a .later) (a .lots) (b .pre .0) later in (
       omega (arith, inside, ap length (t .ensures .waiting), first-length (t .result .count) (t .result .orders)),
       omega (arith, t .ensures .room, b .pre .2),
     )

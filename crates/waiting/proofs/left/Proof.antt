@@ -15,7 +15,8 @@ use Rattle.waiting.proofs.left.Tie as tie
 some : (c : tie.Start) → c .args .at < c .args .s .count
 some c = omega (arith, c .pre .waits, first-length (c .args .s .count) (c .args .s .orders))
 
-found-there : (c : tie.Start) → orderAt ((view (c .args .s)) .waiting) (c .args .at) ≡ orderAt (c .args .s .orders) (c .args .at)
+found-there : (c : tie.Start)
+    → orderAt ((view (c .args .s)) .waiting) (c .args .at) ≡ orderAt (c .args .s .orders) (c .args .at)
 found-there c = first-at (c .args .s .count) (c .args .s .orders) (c .args .at) (some c)
 
 mul-o : tie.Need-mul-o
