@@ -10,13 +10,7 @@ use market::Security;
 use market::Side;
 use market::State;
 use market::TimeInForce;
-
-// Prints the answer and goes on with the state.
-fn after(label: &[u8], o: Outcome) -> State {
-    let answer = o.answer;
-    show::answer(label, answer);
-    o.state
-}
+use show::after;
 
 fn kept(s: State, participant: u64, side: Side, security: u64, price: u64, lots: u64) -> State {
     let mut trades = [0u64; 1088];

@@ -3,6 +3,7 @@
 ghost use mathlib.Core.Path.{_≡_};
 ghost use Rattle.market.specs.declared.Answer.the-variants.{Done, Refused};
 ghost use Rattle.market.specs.Limits.{limitsInOrder};
+ghost use Rattle.market.specs.Day.{view, withPhase};
 ghost use Rattle.market.specs.Sound.{isClosing, isOpen};
 
 pub const MAX_PARTICIPANTS: u64 = 16;
@@ -160,6 +161,30 @@ pub fn is_closing(phase: Phase) -> bool
         Phase::Open => false,
         Phase::Closing => true,
         Phase::Closed => false,
+    }
+}
+
+// The state in another phase. The prover covers no store to a field that is an enum, so the state is built anew.
+pub fn with_phase(s: State, phase: Phase) -> State
+    ensures { λ r. ⌜ view r ≡ withPhase (view s) phase ⌝ }
+{
+    let table = s.table;
+    let money = s.money;
+    let pieces = s.pieces;
+    let orders = s.orders;
+    let turnover = s.turnover;
+    State {
+        participants: s.participants,
+        currencies: s.currencies,
+        securities: s.securities,
+        table,
+        money,
+        pieces,
+        orders,
+        count: s.count,
+        codes: s.codes,
+        phase,
+        turnover,
     }
 }
 

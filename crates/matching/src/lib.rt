@@ -84,7 +84,7 @@ fn reaches(side: Side, own: Kind, other: Kind) -> bool
 }
 
 // Is the waiting order a counter order that fits the entry?
-pub fn fits(e: Order, o: Order) -> bool
+fn fits(e: Order, o: Order) -> bool
     ensures { λ r. ⌜ r ≡ doesFit e o ⌝ }
 {
     if e.security != o.security {
@@ -111,7 +111,7 @@ fn better(side: Side, p: u64, q: u64) -> bool
 }
 
 // An order's own price; a closing order has none.
-pub fn price_of(kind: Kind) -> u64
+fn price_of(kind: Kind) -> u64
     ensures { λ r. ⌜ r ≡ priceOr 0 kind ⌝ }
 {
     match kind {
@@ -196,7 +196,7 @@ fn paid(p: Position, fall: u64, cost: u64) -> Position
 }
 
 // One side of a trade: what the payer's blocked amount pays becomes the receiver's free amount.
-pub fn settled(
+fn settled(
     positions: [Position; 256],
     payer: usize,
     fall: u64,
@@ -218,7 +218,7 @@ pub fn settled(
 }
 
 // Each trade adds to Q and T.
-pub fn counted(turnover: [Turnover; 16], security: usize, pieces: u64, sum: u64) -> [Turnover; 16]
+fn counted(turnover: [Turnover; 16], security: usize, pieces: u64, sum: u64) -> [Turnover; 16]
     requires { ⌜ Countable turnover security pieces sum ⌝ }
     ensures { λ r. ⌜ r ≡ set turnover security (counting pieces sum (turnoverAt turnover security)) ⌝ }
 {
@@ -255,7 +255,7 @@ pub fn fitting_lots(s: State, e: Order) -> u64
 }
 
 // By how much an order's need falls when lots come off it.
-pub fn fall_of(line: Security, turnover: Turnover, order: Order, lots: u64) -> u64
+fn fall_of(line: Security, turnover: Turnover, order: Order, lots: u64) -> u64
     requires { ⌜ Reckoned line turnover order lots ⌝ }
     ensures { λ r. ⌜ r ≡ fallWith line turnover order lots ⌝ }
 {
@@ -292,7 +292,7 @@ pub fn settle(s: State, buy: Order, sell: Order, price: u64, lots: u64) -> State
 }
 
 // A trade of a buy and a sell, of which the one at place `at` waited.
-pub fn traded(s: State, buy: Order, sell: Order, at: usize, price: u64, lots: u64) -> State
+fn traded(s: State, buy: Order, sell: Order, at: usize, price: u64, lots: u64) -> State
     requires { ⌜ Tradable (view s) buy sell at price lots ⌝ }
     ensures { λ r. ⌜ view r ≡ dayTraded (view s) buy sell at price lots ⌝ }
 {

@@ -9,13 +9,7 @@ use market::Security;
 use market::Side;
 use market::State;
 use market::TimeInForce;
-
-// Prints the answer and goes on with the state.
-fn after(label: &[u8], o: Outcome) -> State {
-    let answer = o.answer;
-    show::answer(label, answer);
-    o.state
-}
+use show::after;
 
 // Two participants; participant 0 has this money, participant 1 these pieces of security 0.
 fn day(money: u64, pieces: u64) -> State {

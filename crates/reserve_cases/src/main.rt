@@ -6,20 +6,14 @@ use engine::increase_pieces;
 use engine::opening;
 use market::Kind;
 use market::Order;
-use market::Outcome;
 use market::Phase;
 use market::Position;
 use market::Security;
 use market::Side;
 use market::State;
 use market::Turnover;
-
-// Prints the answer and goes on with the state.
-fn after(label: &[u8], o: Outcome) -> State {
-    let answer = o.answer;
-    show::answer(label, answer);
-    o.state
-}
+use market::with_phase;
+use show::after;
 
 // Lot 10, step 5, currency 0 in every place.
 fn table() -> [Security; 16] {
@@ -279,24 +273,7 @@ fn kind_cases() {
 }
 
 fn closing(s: State) -> State {
-    let table = s.table;
-    let money = s.money;
-    let pieces = s.pieces;
-    let orders = s.orders;
-    let turnover = s.turnover;
-    State {
-        participants: s.participants,
-        currencies: s.currencies,
-        securities: s.securities,
-        table,
-        money,
-        pieces,
-        orders,
-        count: s.count,
-        codes: s.codes,
-        phase: Phase::Closing,
-        turnover,
-    }
+    with_phase(s, Phase::Closing)
 }
 
 fn list_cases() {

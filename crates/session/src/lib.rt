@@ -17,6 +17,7 @@ use market::accepted;
 use market::is_closing;
 use market::is_open;
 use market::refused;
+use market::with_phase;
 use matching::Found;
 use matching::Orders;
 use matching::lesser;
@@ -36,7 +37,7 @@ ghost use lib.ListN.{length};
 ghost use Rattle.market.specs.declared.Kind.the-variants.{Closing as closingKind};
 ghost use Rattle.market.specs.declared.Phase.the-variants.{Closing as closingPhase};
 ghost use Rattle.market.specs.Limits.{lentAtLeast, maxCodes, maxWaiting};
-ghost use Rattle.market.specs.Day.{firstOrders, view, withPhase};
+ghost use Rattle.market.specs.Day.{firstOrders, view};
 ghost use Rattle.market.specs.Waiting.{allLeave, takeOff};
 ghost use Rattle.market.specs.Sound.{sound};
 ghost use Rattle.market.specs.Calls.{closingOf, closingOrder, endSession, startClosing};
@@ -58,30 +59,6 @@ struct Pairing {
     state: State,
     lots: u64,
     trades: u64,
-}
-
-// A phase is an enum, and the prover covers no store to a field that is one.
-fn with_phase(s: State, phase: Phase) -> State
-    ensures { λ r. ⌜ view r ≡ withPhase (view s) phase ⌝ }
-{
-    let table = s.table;
-    let money = s.money;
-    let pieces = s.pieces;
-    let orders = s.orders;
-    let turnover = s.turnover;
-    State {
-        participants: s.participants,
-        currencies: s.currencies,
-        securities: s.securities,
-        table,
-        money,
-        pieces,
-        orders,
-        count: s.count,
-        codes: s.codes,
-        phase,
-        turnover,
-    }
 }
 
 // All waiting orders come off, their needs freed.

@@ -15,13 +15,7 @@ use market::Security;
 use market::Side;
 use market::State;
 use market::TimeInForce;
-
-// Prints the answer and goes on with the state.
-fn after(label: &[u8], o: Outcome) -> State {
-    let answer = o.answer;
-    show::answer(label, answer);
-    o.state
-}
+use show::after;
 
 fn order(
     s: State,

@@ -1,7 +1,9 @@
 // Printing for the programs that run cases: a label, then an answer or a position.
 use libc::STDOUT_FILENO;
 use market::Answer;
+use market::Outcome;
 use market::Position;
+use market::State;
 
 fn number(x: u64) {
     io::write_all(STDOUT_FILENO, b",");
@@ -33,11 +35,18 @@ fn done(label: &[u8], code: u64, filled: u64, left: u64, trades: u64) {
 }
 
 // An answer as the day file prints it: refusal, place, code, filled, left, trades.
-pub fn answer(label: &[u8], a: Answer) {
+fn answer(label: &[u8], a: Answer) {
     match a {
         Answer::Refused(number_of, place) => refusal(label, number_of, place),
         Answer::Done(code, filled, left, trades) => done(label, code, filled, left, trades),
     }
+}
+
+// Prints the answer and goes on with the state.
+pub fn after(label: &[u8], o: Outcome) -> State {
+    let a = o.answer;
+    answer(label, a);
+    o.state
 }
 
 // Free and blocked.
