@@ -134,7 +134,7 @@ fn reserve_cases() {
     );
 }
 
-fn kind_cases() {
+fn whole_or_nothing() {
     after(
         b"A of 11 against 10: 15",
         order(
@@ -168,6 +168,9 @@ fn kind_cases() {
             TimeInForce::FillOrKill,
         ),
     );
+}
+
+fn immediate() {
     let s = after(
         b"I of 11 fills 10, none waits",
         order(
@@ -411,7 +414,8 @@ fn full_list() {
 fn main() {
     example();
     reserve_cases();
-    kind_cases();
+    whole_or_nothing();
+    immediate();
     refusals();
     more_refusals();
     cancels();
