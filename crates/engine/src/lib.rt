@@ -79,7 +79,7 @@ fn opened(participants: u64, currencies: u64, securities: u64, table: [Security;
 }
 
 // What a refused opening hands back: zeros, which is unsound.
-fn refused_opening(number: u64, place: u64) -> Outcome
+pub fn refused_opening(number: u64, place: u64) -> Outcome
     ensures { λ r. ⌜ RefusedOpening number place r ⌝ }
 {
     let state = opened(

@@ -1,0 +1,50 @@
+-- `dayfile::begin` meets its contract: a text that is too long, or a heading.
+use borrow.Author.Needs.{needs}
+use Rattle.dayfile.proofs.Beginning.{begins-headed, begins-long}
+use Rattle.dayfile.proofs.begin.Statement.{statement}
+use Rattle.dayfile.proofs.begin.Tie as tie
+
+too-long-requires : tie.Need-too-long-requires
+too-long-requires c κs = search needs
+
+same-length : tie.Need-same-length
+same-length c = search needs
+
+returns : tie.Need-returns
+returns c =
+    let call = c .before .before in
+    let taken = call .before .before in
+    begins-long (taken .before .before .before .pre) (taken .if1 .taken) (call .too-long .ensures)
+
+heading-of-requires : tie.Need-heading-of-requires
+heading-of-requires c κs = search needs
+
+put-answer-requires : tie.Need-put-answer-requires
+put-answer-requires c κs = search needs
+
+is-done-requires : tie.Need-is-done-requires
+is-done-requires c κs = search needs
+
+same-length-2 : tie.Need-same-length-2
+same-length-2 c = search needs
+
+returns-2 : tie.Need-returns-2
+returns-2 c =
+    let put = c .before .before .before .before in
+    let head = put .before .before .before in
+    let start = head .before .before .before .before in
+    begins-headed (start .pre) (head .before .if1 .left) (head .heading-of .ensures) (put .put-answer .ensures)
+    (c .is-done .result) (c .is-done .ensures)
+
+pub begin-spec : {M : Type 1} → statement M
+begin-spec =
+    tie.close
+    (tie.spec
+    too-long-requires
+    same-length
+    returns
+    heading-of-requires
+    put-answer-requires
+    is-done-requires
+    same-length-2
+    returns-2)

@@ -1,0 +1,4 @@
+pub mod Heading
+pub mod Command
+pub mod Output
+pub mod Run

@@ -1,0 +1,71 @@
+-- A run of a day file in parts: what was put into the buffer, and what is still to be printed.
+use Prim.Native.Nat.{ℕ, suc, _+_, _*_, _-_, _≤_, _<_}
+use mathlib.Core.Path.{_≡_}
+use mathlib.Core.List.{List, [], _++_}
+use mathlib.Core.Bool.{Bool, true, false}
+use lib.ListN.{drop, length, take}
+use Rattle.market.specs.declared.Answer.the-variants.{Refused}
+use Rattle.market.specs.Day.{view}
+use Rattle.market.specs.Sound.{sound}
+use Rattle.printing.specs.Buffer.{Puts}
+use Rattle.printing.specs.Lines.{answerLine}
+use Rattle.dayfile.specs.declared.Run.{Run}
+use Rattle.dayfile.specs.Output.{linesFrom, maxText, printed, tooLong}
+
+-- what a command, or the last positions, take of the buffer at most
+abbrev pub room : ℕ
+room = 32768
+
+-- what is still to be printed, and how much there is still to do
+abbrev pub leftBy : Bool → List ℕ → List ℕ
+leftBy true t = []
+leftBy false t = t
+
+unfoldable pub left : List ℕ → Run → List ℕ
+left text r = leftBy (r .over) (linesFrom (view (r .state)) (r .line) (drop (r .at) text))
+
+abbrev pub toGoBy : Bool → ℕ → ℕ
+toGoBy true n = 0
+toGoBy false n = suc n
+
+unfoldable pub toGo : List ℕ → Run → ℕ
+toGo text r = toGoBy (r .over) (length text - r .at)
+
+-- a run that is not over stands at a place of its text with a sound state; a command takes at most 9 lines and at least a
+-- byte, so that the line's number stays small
+pub record Going (text : List ℕ) (r : Run) : Type 0 where
+  pub sound : sound (view (r .state)) ≡ true
+  pub inside : r .at ≤ length text
+  pub short : length text ≤ maxText
+  pub line : r .line ≤ 18 + 9 * r .at
+
+-- a text over 65,536 bytes: its answer stands in the buffer, and the run is over
+pub record TooLong (before : List ℕ) (r : Run) (after : List ℕ) : Type 0 where
+  pub over : r .over ≡ true
+  pub puts : Puts before 0 (answerLine 0 (Refused tooLong 0)) after (r .filled)
+
+-- the beginning: what stands in the buffer and what is left make up what is to be printed
+pub record Begins (text before : List ℕ) (r : Run) (after : List ℕ) : Type 0 where
+  pub going : r .over ≡ false → Going text r
+  pub size : length after ≡ length before
+  pub filled : r .filled ≤ length after
+  pub whole : take (r .filled) after ++ left text r ≡ printed text
+
+-- r′ goes on from r: what stands in the buffer and what is left make up the same as before, and less is to do
+pub record Continues (text : List ℕ) (r : Run) (before : List ℕ) (r′ : Run) (after : List ℕ) : Type 0 where
+  pub going : r′ .over ≡ false → Going text r′
+  pub size : length after ≡ length before
+  pub filled : r′ .filled ≤ length after
+  pub whole : take (r′ .filled) after ++ left text r′ ≡ take (r .filled) before ++ left text r
+  pub less : toGo text r′ < toGo text r
+
+-- r′ goes on from r as far as the buffer has room
+pub record Fills (text : List ℕ) (r : Run) (before : List ℕ) (r′ : Run) (after : List ℕ) : Type 0 where
+  pub continues : Continues text r before r′ after
+  pub full : r′ .over ≡ false → length after < r′ .filled + room
+
+-- the whole day in one buffer: all that is printed stands at its start, or it has no room for that, and n is 0
+pub record Prints (text before : List ℕ) (n : ℕ) (after : List ℕ) : Type 0 where
+  pub size : length after ≡ length before
+  pub whole : 0 < n → take n after ≡ printed text
+  pub enough : length (printed text) + room ≤ length before → 0 < n

@@ -1,0 +1,5 @@
+pub mod Digits
+pub mod Letters
+pub mod Finding
+pub mod Rows
+pub mod Fields

@@ -1,0 +1,4 @@
+pub mod Buffer
+pub mod Decimals
+pub mod Lines
+pub mod Runs

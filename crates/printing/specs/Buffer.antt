@@ -1,0 +1,15 @@
+-- What is put into a lent buffer.
+use Prim.Native.Nat.{ℕ, _+_, _*_}
+use mathlib.Core.Path.{_≡_}
+use mathlib.Core.List.{List, _++_}
+use lib.ListN.{length, take}
+
+-- bytes are put at place `at`: they end at place r, what stands before them stays, and the buffer keeps its length
+pub record Puts (before : List ℕ) (at : ℕ) (bytes : List ℕ) (after : List ℕ) (r : ℕ) : Type 0 where
+  pub end : r ≡ at + length bytes
+  pub text : take r after ≡ take at before ++ bytes
+  pub size : length after ≡ length before
+
+-- what a line of n numbers takes at most: its letter, a comma and 20 digits for each number, its end
+abbrev pub lineRoom : ℕ → ℕ
+lineRoom n = 2 + 21 * n

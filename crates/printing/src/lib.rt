@@ -1,0 +1,170 @@
+// The lines that the day file program prints, put one after another into a lent buffer.
+use amounts::place_of;
+use market::Answer;
+use market::Position;
+use market::State;
+ghost use mathlib.Core.Path.{_≡_};
+ghost use mathlib.Core.List.{[], _∷_};
+ghost use Prim.Native.Nat.{_+_, _*_, _≤_, _<_};
+ghost use lib.ListN.{length};
+ghost use Rattle.market.specs.Limits.{columns as maxColumns, maxCurrencies, maxParticipants, maxSecurities};
+ghost use Rattle.market.specs.Limits.{numbersPerTrade};
+ghost use Rattle.market.specs.Day.{view};
+ghost use Rattle.printing.specs.Buffer.{Puts, lineRoom};
+ghost use Rattle.printing.specs.Lines.{answerLine, columnLines, decimal, flatLines, letterA};
+ghost use Rattle.printing.specs.Lines.{participantLines, positionLine, positionLines, printedLine};
+
+const COMMA: u8 = b',';
+
+const LINE_END: u8 = b'\n';
+
+const LETTER_A: u8 = b'A';
+
+const LETTER_T: u8 = b'T';
+
+const LETTER_M: u8 = b'M';
+
+const LETTER_Q: u8 = b'Q';
+
+const NUMBERS_PER_TRADE: usize = 8;
+
+fn put_byte(out: &mut [u8], at: usize, byte: u8) -> usize
+    requires { ⌜ at < length (now out) ⌝ }
+    ensures { λ r. ⌜ Puts (now (out .entry)) at (byte ∷ []) (now (out .exit)) r ⌝ }
+{
+    out[at] = byte;
+    at + 1
+}
+
+// The digits of the number's tenth, then its last digit.
+fn put_number(out: &mut [u8], at: usize, n: u64) -> usize
+    requires { ⌜ at + 20 ≤ length (now out) ⌝ }
+    ensures { λ r. ⌜ Puts (now (out .entry)) at (decimal n) (now (out .exit)) r ⌝ }
+{
+    let last = b'0' + (n % 10) as u8;
+    if n < 10 {
+        return put_byte(out, at, last);
+    }
+    let end = put_number(out, at, n / 10);
+    put_byte(out, end, last)
+}
+
+pub fn put_line(out: &mut [u8], at: usize, letter: u8, numbers: &[u64]) -> usize
+    requires { ⌜ at + lineRoom (length (now numbers)) ≤ length (now out) ⌝ }
+    ensures { λ r. ⌜ Puts (now (out .entry)) at (printedLine letter (now (numbers .entry))) (now (out .exit)) r ⌝ }
+{
+    let mut end = put_byte(out, at, letter);
+    let mut i: usize = 0;
+    while i < numbers.len() {
+        let field = put_byte(out, end, COMMA);
+        end = put_number(out, field, numbers[i]);
+        i += 1;
+    }
+    put_byte(out, end, LINE_END)
+}
+
+// The numbers of an answer's line.
+fn answer_numbers(line: u64, answer: Answer) -> [u64; 7]
+    ensures { λ r. ⌜ printedLine letterA r ≡ answerLine line answer ⌝ }
+{
+    match answer {
+        Answer::Refused(number, place) => [line, number, place, 0, 0, 0, 0],
+        Answer::Done(code, filled, left, trades) => [line, 0, 0, code, filled, left, trades],
+    }
+}
+
+pub fn put_answer(out: &mut [u8], at: usize, line: u64, answer: Answer) -> usize
+    requires { ⌜ at + lineRoom 7 ≤ length (now out) ⌝ }
+    ensures { λ r. ⌜ Puts (now (out .entry)) at (answerLine line answer) (now (out .exit)) r ⌝ }
+{
+    let numbers = answer_numbers(line, answer);
+    put_line(out, at, LETTER_A, &numbers)
+}
+
+// A line for each of the first `count` trades.
+pub fn put_trades(out: &mut [u8], at: usize, trades: &[u64], count: u64) -> usize
+    requires { ⌜ count * numbersPerTrade ≤ length (now trades) ⌝ }
+    requires { ⌜ at + count * lineRoom numbersPerTrade ≤ length (now out) ⌝ }
+    ensures { λ r. ⌜ Puts (now (out .entry)) at (flatLines count (now (trades .entry))) (now (out .exit)) r ⌝ }
+{
+    let mut end = at;
+    let mut i: u64 = 0;
+    while i < count {
+        let first = i as usize * NUMBERS_PER_TRADE;
+        let behind = first + NUMBERS_PER_TRADE;
+        end = put_line(out, end, LETTER_T, &trades[first..behind]);
+        i += 1;
+    }
+    end
+}
+
+fn put_position(
+    out: &mut [u8],
+    at: usize,
+    letter: u8,
+    participant: u64,
+    column: u64,
+    x: Position,
+) -> usize
+    requires { ⌜ at + lineRoom 4 ≤ length (now out) ⌝ }
+    ensures { λ r. ⌜ Puts (now (out .entry)) at (positionLine letter participant column x) (now (out .exit)) r ⌝ }
+{
+    let numbers = [participant, column, x.free, x.blocked];
+    put_line(out, at, letter, &numbers)
+}
+
+// The lines of a participant.
+fn put_columns(
+    out: &mut [u8],
+    at: usize,
+    letter: u8,
+    participant: u64,
+    columns: u64,
+    positions: [Position; 256],
+) -> usize
+    requires { ⌜ (participant < maxParticipants) × (columns ≤ maxColumns) ⌝ }
+    requires { ⌜ at + columns * lineRoom 4 ≤ length (now out) ⌝ }
+    ensures { λ r. ⌜ Puts (now (out .entry)) at (columnLines letter positions participant columns 0) (now (out .exit)) r ⌝ }
+{
+    let mut end = at;
+    let mut column: u64 = 0;
+    while column < columns {
+        let x = positions[place_of(participant, column)];
+        end = put_position(out, end, letter, participant, column, x);
+        column += 1;
+    }
+    end
+}
+
+fn put_participants(
+    out: &mut [u8],
+    at: usize,
+    letter: u8,
+    participants: u64,
+    columns: u64,
+    positions: [Position; 256],
+) -> usize
+    requires { ⌜ (participants ≤ maxParticipants) × (columns ≤ maxColumns) ⌝ }
+    requires { ⌜ at + participants * (columns * lineRoom 4) ≤ length (now out) ⌝ }
+    ensures { λ r. ⌜ Puts (now (out .entry)) at (participantLines letter positions columns participants 0) (now (out .exit)) r ⌝ }
+{
+    let mut end = at;
+    let mut participant: u64 = 0;
+    while participant < participants {
+        end = put_columns(out, end, letter, participant, columns, positions);
+        participant += 1;
+    }
+    end
+}
+
+pub fn put_positions(out: &mut [u8], at: usize, s: State) -> usize
+    requires { ⌜ (s .participants ≤ maxParticipants) × (s .currencies ≤ maxCurrencies)
+        × (s .securities ≤ maxSecurities) ⌝ }
+    requires { ⌜ at + maxParticipants * (maxCurrencies + maxSecurities) * lineRoom 4 ≤ length (now out) ⌝ }
+    ensures { λ r. ⌜ Puts (now (out .entry)) at (positionLines (view s)) (now (out .exit)) r ⌝ }
+{
+    let money = s.money;
+    let pieces = s.pieces;
+    let end = put_participants(out, at, LETTER_M, s.participants, s.currencies, money);
+    put_participants(out, end, LETTER_Q, s.participants, s.securities, pieces)
+}

@@ -1,0 +1,6 @@
+pub mod LineEnds
+pub mod Tags
+pub mod MemberLines
+pub mod Groups
+pub mod FirstCommand
+pub mod Yields

@@ -1,0 +1,181 @@
+// A reader of a day file: it yields one command after another.
+use lines::Command;
+use lines::line_says;
+use market::MAX_MEMBERS;
+use market::MIN_MEMBERS;
+use market::Member;
+use market::Side;
+ghost use mathlib.Core.Path.{_≡_};
+ghost use Prim.Native.Nat.{_≤_};
+ghost use lib.ListN.{drop, length};
+ghost use Rattle.market.specs.Limits.{maxMembers};
+ghost use Rattle.lines.specs.declared.Command.the-variants as command;
+ghost use Rattle.reading.specs.Commands.{Reads, ReadsLine, ReadsMembers, Yields, noMembers, yieldBy};
+
+const LINE_END: u8 = b'\n';
+
+// A command, the members of a group, how many lines it took, and where the text goes on after them.
+pub struct Reading {
+    pub command: Command,
+    pub members: [Member; 8],
+    pub lines: u64,
+    pub next: usize,
+}
+
+// A line, and where the text goes on after it.
+pub struct Line {
+    pub command: Command,
+    pub next: usize,
+}
+
+// A group's members in their places, where all their lines are there.
+pub struct Members {
+    pub good: bool,
+    pub list: [Member; 8],
+    pub next: usize,
+}
+
+fn line_at(text: &[u8], at: usize) -> Line
+    requires { ⌜ at ≤ length (now text) ⌝ }
+    ensures { λ r. ⌜ ReadsLine (now (text .entry)) at (r .command) (r .next) ⌝ }
+{
+    let end = bytes::scan::find(text, at, text.len(), LINE_END);
+    let command = line_says(&text[at..end]);
+    let next = if end < text.len() { end + 1 } else { end };
+    Line { command, next }
+}
+
+// The lines of n members.
+fn members_at(text: &[u8], from: usize, n: u64) -> Members
+    requires { ⌜ from ≤ length (now text) ⌝ }
+    requires { ⌜ n ≤ maxMembers ⌝ }
+    ensures { λ r. ⌜ ReadsMembers (now (text .entry)) from n r ⌝ }
+{
+    let blank = Member {
+        side: Side::Buy,
+        security: 0,
+        price: 0,
+        lots: 0,
+    };
+    let mut list = [blank; 8];
+    let mut at = from;
+    let mut i: usize = 0;
+    while (i as u64) < n {
+        if text.len() <= at {
+            return Members {
+                good: false,
+                list,
+                next: at,
+            };
+        }
+        let line = line_at(text, at);
+        let command = line.command;
+        let Command::Member(member) = command else {
+            return Members {
+                good: false,
+                list,
+                next: at,
+            };
+        };
+        list[i] = member;
+        i += 1;
+        at = line.next;
+    }
+    Members {
+        good: true,
+        list,
+        next: at,
+    }
+}
+
+// A command of one line.
+fn single(command: Command, next: usize) -> Reading
+    ensures { λ r. ⌜ r ≡ record { command = command; members = noMembers; lines = 1; next = next } ⌝ }
+{
+    let blank = Member {
+        side: Side::Buy,
+        security: 0,
+        price: 0,
+        lots: 0,
+    };
+    Reading {
+        command,
+        members: [blank; 8],
+        lines: 1,
+        next,
+    }
+}
+
+// A group whose first line ends at `next`, with its members' lines.
+fn group_at(text: &[u8], next: usize, participant: u64, n: u64) -> Reading
+    requires { ⌜ next ≤ length (now text) ⌝ }
+    ensures { λ r. ⌜ Yields (now (text .entry)) next (yieldBy (command.Group participant n) (drop next (now (text .entry)))) r ⌝ }
+{
+    if n < MIN_MEMBERS {
+        return single(Command::Group(participant, n), next);
+    }
+    if MAX_MEMBERS < n {
+        return single(Command::Group(participant, n), next);
+    }
+    let members = members_at(text, next, n);
+    if !members.good {
+        return single(Command::Malformed, next);
+    }
+    let list = members.list;
+    Reading {
+        command: Command::Group(participant, n),
+        members: list,
+        lines: n + 1,
+        next: members.next,
+    }
+}
+
+// The command at a place of the text; past its end an empty line.
+fn reading_at(text: &[u8], at: usize) -> Reading
+    ensures { λ r. ⌜ Reads (now (text .entry)) at r ⌝ }
+{
+    let from = if at < text.len() { at } else { text.len() };
+    let line = line_at(text, from);
+    let command = line.command;
+    if let Command::Group(participant, n) = command {
+        return group_at(text, line.next, participant, n);
+    }
+    single(command, line.next)
+}
+
+// A line reader over a lent text.
+pub struct Reader<'a> {
+    pub text: &'a [u8],
+    pub at: usize,
+}
+
+impl<'a> Reader<'a> {
+    pub fn new(text: &'a [u8]) -> Reader<'a>
+        ensures { λ r. ⌜ (r .text ≡ text .entry) × (r .at ≡ 0) ⌝ }
+    {
+        Reader { text, at: 0 }
+    }
+
+    // The reader at another place of its text.
+    pub fn moved(self, at: usize) -> Reader<'a>
+        ensures { λ q. ⌜ (q .text ≡ self .entry .text) × (q .at ≡ at) ⌝ }
+    {
+        Reader {
+            text: self.text,
+            at,
+        }
+    }
+
+    pub fn next(self) -> Reading
+        ensures { λ r. ⌜ Reads (now (self .entry .text)) (self .entry .at) r ⌝ }
+    {
+        reading_at(self.text, self.at)
+    }
+}
+
+// The reader with plain parameters: whoever calls it needs no proof by hand.
+pub fn command_at(text: &[u8], at: usize) -> Reading
+    ensures { λ r. ⌜ Reads (now (text .entry)) at r ⌝ }
+{
+    Reader::new(text).moved(at).next()
+}

@@ -1,0 +1,224 @@
+//! Speed of the engine beside the model, on the same day files in one run.
+//! Times are medians of processor time, and include the reading of the lines
+//! and the printing of the answers in both.
+
+use std::hint::black_box;
+
+use model::dayfile::{output_of, run_day};
+use model::generate::good_long_day;
+use model::tally::Tally;
+
+use crate::clock::processor_time;
+use crate::engine_under_test::{EngineUnderTest, Form};
+
+const LONG_DAYS: u64 = 50;
+const ORDERS: usize = 1_000;
+const GROUPS: usize = 200;
+
+/// Many short samples, so that other work on the machine spoils few of them.
+const LONG_DAY_ROUNDS: usize = 11;
+const ROUNDS: usize = 201;
+const END_REPEATS: usize = 10;
+
+/// In the order of the table's columns.
+const SUBJECTS: [Subject; 4] = [
+    Subject::Engine(Form::Proved),
+    Subject::Model {
+        asks_soundness: false,
+    },
+    Subject::Engine(Form::Checked),
+    Subject::Model {
+        asks_soundness: true,
+    },
+];
+
+#[derive(Clone, Copy)]
+enum Subject {
+    Engine(Form),
+    Model { asks_soundness: bool },
+}
+
+/// Seconds of each subject.
+type Times = [f64; SUBJECTS.len()];
+
+struct Runner {
+    engine: EngineUnderTest,
+    model_output: Vec<u8>,
+}
+
+impl Runner {
+    fn run(&mut self, subject: Subject, text: &[u8]) -> Result<&[u8], String> {
+        match subject {
+            Subject::Engine(form) => self.engine.output_of(form, text),
+            Subject::Model { asks_soundness } => {
+                self.model_output.clear();
+                run_day(text, asks_soundness, &mut (), &mut self.model_output);
+                Ok(&self.model_output)
+            }
+        }
+    }
+
+    fn seconds(&mut self, subject: Subject, text: &[u8], repeats: usize) -> Result<f64, String> {
+        let start = processor_time()?;
+        for _ in 0..repeats {
+            black_box(self.run(subject, black_box(text))?);
+        }
+        let taken = processor_time()? - start;
+        Ok(taken.as_secs_f64() / repeats as f64)
+    }
+
+    /// Median seconds for each text, texts and subjects taking turns.
+    fn measure(
+        &mut self,
+        texts: &[&[u8]],
+        rounds: usize,
+        repeats: usize,
+    ) -> Result<Vec<Times>, String> {
+        let mut samples = vec![[const { Vec::new() }; SUBJECTS.len()]; texts.len()];
+        for _ in 0..rounds {
+            for (text, of_text) in texts.iter().zip(&mut samples) {
+                for (subject, times) in SUBJECTS.into_iter().zip(of_text) {
+                    times.push(self.seconds(subject, text, repeats)?);
+                }
+            }
+        }
+        Ok(samples
+            .into_iter()
+            .map(|of_text| of_text.map(median))
+            .collect())
+    }
+
+    /// What the whole text takes longer than its setup alone.
+    fn measure_beyond(&mut self, setup: &str, rest: &str, repeats: usize) -> Result<Times, String> {
+        let whole = [setup, rest].concat();
+        self.check(whole.as_bytes())?;
+        let texts = [whole.as_bytes(), setup.as_bytes()];
+        let measured = self.measure(&texts, ROUNDS, repeats)?;
+        Ok(std::array::from_fn(|subject| {
+            measured[0][subject] - measured[1][subject]
+        }))
+    }
+
+    /// All subjects print the same, and no command is refused, so that the
+    /// times are those of the work named.
+    fn check(&mut self, text: &[u8]) -> Result<(), String> {
+        let expected = output_of(text);
+        let mut tally = Tally::default();
+        tally.count_output(&expected);
+        if tally.accepted != tally.commands {
+            return Err("bench: a command of the measured day is refused".into());
+        }
+        self.check_same(text, &expected)
+    }
+
+    fn check_same(&mut self, text: &[u8], expected: &[u8]) -> Result<(), String> {
+        for subject in SUBJECTS {
+            if self.run(subject, text)? != expected {
+                return Err("bench: engine and model print different days".into());
+            }
+        }
+        Ok(())
+    }
+}
+
+fn median(mut times: Vec<f64>) -> f64 {
+    times.sort_by(f64::total_cmp);
+    times[times.len() / 2]
+}
+
+pub fn bench() -> Result<(), String> {
+    let mut runner = Runner {
+        engine: EngineUnderTest::new(),
+        model_output: Vec::new(),
+    };
+    println!("bench: medians of processor time; reading and printing of lines included");
+    println!("ratio: the engine's time by the model's");
+    println!(
+        "{:42}{:>12}{:>12}{:>7}{:>12}{:>12}{:>7}",
+        "", "by proof", "model", "ratio", "checked", "model", "ratio"
+    );
+    bench_long_days(&mut runner)?;
+    for waiting in [0, 32, 128] {
+        let orders = "B,0,0,100,1,I\n".repeat(ORDERS);
+        let times = runner.measure_beyond(&setup(waiting), &orders, 1)?;
+        let name = format!("order without trade, {waiting} waiting, ns");
+        print_nanoseconds(&name, times, ORDERS);
+    }
+    for waiting in [1, 32, 128] {
+        let orders = "B,0,0,200,1,I\nL,1,0,200,1,K\n".repeat(ORDERS / 2);
+        let times = runner.measure_beyond(&setup(waiting), &orders, 1)?;
+        let name = format!("order, trade and re-entry, {waiting} waiting, ns");
+        print_nanoseconds(&name, times, ORDERS);
+    }
+    bench_groups(&mut runner)?;
+    bench_session_end(&mut runner)
+}
+
+fn bench_long_days(runner: &mut Runner) -> Result<(), String> {
+    let texts: Vec<Vec<u8>> = (1..=LONG_DAYS).map(good_long_day).collect();
+    let mut tally = Tally::default();
+    for text in &texts {
+        let expected = output_of(text);
+        tally.count_output(&expected);
+        runner.check_same(text, &expected)?;
+    }
+    let texts: Vec<&[u8]> = texts.iter().map(Vec::as_slice).collect();
+    let medians = runner.measure(&texts, LONG_DAY_ROUNDS, 1)?;
+    let times: Times =
+        std::array::from_fn(|subject| medians.iter().map(|times| times[subject]).sum());
+    let commands = tally.commands as f64;
+    print_row(
+        &format!("{LONG_DAYS} long days, commands a second"),
+        times.map(|seconds| commands / seconds),
+        times,
+    );
+    println!(
+        "  ({commands} commands, {} accepted, {} trades)",
+        tally.accepted, tally.trades
+    );
+    Ok(())
+}
+
+/// Reserves for both sides, and so many sells of one lot waiting at 200.
+fn setup(waiting: usize) -> String {
+    let reserves = "H,2,1,1\nS,0,1,1\nR,0,0,1000000000\nD,1,0,1000000000\n";
+    [reserves, &"L,1,0,200,1,K\n".repeat(waiting)].concat()
+}
+
+fn bench_groups(runner: &mut Runner) -> Result<(), String> {
+    let setup = format!("{}L,1,0,200,10000,K\n", setup(0));
+    let group = format!("G,0,8\n{}", "M,B,0,200,1\n".repeat(8));
+    let times = runner.measure_beyond(&setup, &group.repeat(GROUPS), 1)?;
+    print_nanoseconds("group of 8, one trade each, ns", times, GROUPS);
+    Ok(())
+}
+
+/// 64 buys and 64 sells whose lots never end together but once: 127 trades.
+fn bench_session_end(runner: &mut Runner) -> Result<(), String> {
+    let mut setup = format!("{}L,1,0,200,1,K\nB,0,0,200,1,K\nC\n", setup(0));
+    for place in 0..64 {
+        let lots = match place {
+            0 => 1,
+            63 => 3,
+            _ => 2,
+        };
+        setup.push_str(&format!("P,0,B,0,2\nP,1,L,0,{lots}\n"));
+    }
+    let times = runner.measure_beyond(&setup, "Z\n", END_REPEATS)?;
+    print_nanoseconds("session's end, 128 orders, 127 trades, ns", times, 1);
+    Ok(())
+}
+
+fn print_nanoseconds(name: &str, times: Times, count: usize) {
+    let nanoseconds = times.map(|seconds| seconds * 1e9 / count as f64);
+    print_row(name, nanoseconds, times);
+}
+
+fn print_row(name: &str, shown: Times, times: Times) {
+    let [proved, model, checked, model_asking] = shown;
+    println!(
+        "{name:42}{proved:12.0}{model:12.0}{:7.2}{checked:12.0}{model_asking:12.0}{:7.2}",
+        times[0] / times[1],
+        times[2] / times[3]
+    );
+}

@@ -1,0 +1,341 @@
+//! The book of demand 3. It is fed the opening's arguments and each call's
+//! arguments, answer and trades, and nothing from the state.
+
+use crate::calls::{
+    Answer, Call, ClosingEntry, Done, Entry, EntryKind, Member, Movement, Opening, Phase,
+    SecurityLine, Side, Trade, WaitingKind, WaitingOrder,
+};
+use crate::engine::{Engine, Position};
+
+/// What a check found wrong, in words.
+pub type Checked = Result<(), String>;
+
+/// Balances are signed, so that a faulty engine's trades can be booked too.
+pub struct Book {
+    participants: usize,
+    currencies: usize,
+    securities: Vec<SecurityLine>,
+    money: Vec<Vec<i128>>,
+    pieces: Vec<Vec<i128>>,
+    traded: Vec<BookedTrades>,
+    phase: Phase,
+    waiting: Vec<WaitingOrder>,
+}
+
+/// Q and T of one security.
+#[derive(Clone, Copy, Default, Debug)]
+struct BookedTrades {
+    pieces: i128,
+    turnover: i128,
+}
+
+pub fn expect(holds: bool, fault: impl FnOnce() -> String) -> Checked {
+    if holds {
+        Ok(())
+    } else {
+        Err(fault())
+    }
+}
+
+/// An index that the book knows, from a number that it was fed.
+fn known(number: u64, count: usize, name: &str) -> Result<usize, String> {
+    usize::try_from(number)
+        .ok()
+        .filter(|&index| index < count)
+        .ok_or_else(|| format!("{name} {number} is unknown"))
+}
+
+/// Feeding.
+impl Book {
+    pub fn new(opening: &Opening) -> Book {
+        let participants = opening.participants as usize;
+        let currencies = opening.currencies as usize;
+        let securities = opening.securities.len();
+        Book {
+            participants,
+            currencies,
+            securities: opening.securities.clone(),
+            money: vec![vec![0; currencies]; participants],
+            pieces: vec![vec![0; securities]; participants],
+            traded: vec![BookedTrades::default(); securities],
+            phase: Phase::Open,
+            waiting: Vec::new(),
+        }
+    }
+
+    /// A refused call changes nothing; an accepted one is booked.
+    pub fn feed(&mut self, call: &Call, answer: &Answer, trades: &[Trade]) -> Checked {
+        let Ok(done) = answer else {
+            return expect(trades.is_empty(), || "a refused call wrote trades".into());
+        };
+        self.check_answer(call, done, trades)?;
+        match call {
+            Call::MoneyUp(movement) => self.move_money(movement, 1)?,
+            Call::MoneyDown(movement) => self.move_money(movement, -1)?,
+            Call::PiecesUp(movement) => self.move_pieces(movement, 1)?,
+            Call::PiecesDown(movement) => self.move_pieces(movement, -1)?,
+            Call::Enter(entry) if entry.kind == EntryKind::Kept => self.keep(entry, done.code)?,
+            Call::EnterClosing(entry) => self.keep_closing(entry, done.code)?,
+            _ => {}
+        }
+        for trade in trades {
+            self.book_trade(trade)?;
+        }
+        match call {
+            Call::Cancel { participant, code } => self.take_off(*participant, *code),
+            Call::StartClosing => self.turn_to(Phase::Closing),
+            Call::EndSession => self.turn_to(Phase::Closed),
+            _ => {}
+        }
+        Ok(())
+    }
+
+    fn move_money(&mut self, movement: &Movement, sign: i128) -> Checked {
+        let participant = known(movement.participant, self.participants, "participant")?;
+        let currency = known(movement.asset, self.currencies, "currency")?;
+        self.money[participant][currency] += sign * i128::from(movement.amount);
+        Ok(())
+    }
+
+    fn move_pieces(&mut self, movement: &Movement, sign: i128) -> Checked {
+        let participant = known(movement.participant, self.participants, "participant")?;
+        let security = known(movement.asset, self.securities.len(), "security")?;
+        self.pieces[participant][security] += sign * i128::from(movement.amount);
+        Ok(())
+    }
+
+    fn keep(&mut self, entry: &Entry, code: u64) -> Checked {
+        let order = WaitingOrder {
+            code,
+            participant: known(entry.participant, self.participants, "participant")?,
+            side: entry.side,
+            security: known(entry.security, self.securities.len(), "security")?,
+            lots: entry.lots,
+            kind: WaitingKind::Kept(entry.price),
+        };
+        self.waiting.push(order);
+        Ok(())
+    }
+
+    fn keep_closing(&mut self, entry: &ClosingEntry, code: u64) -> Checked {
+        let order = WaitingOrder {
+            code,
+            participant: known(entry.participant, self.participants, "participant")?,
+            side: entry.side,
+            security: known(entry.security, self.securities.len(), "security")?,
+            lots: entry.lots,
+            kind: WaitingKind::Closing,
+        };
+        self.waiting.push(order);
+        Ok(())
+    }
+
+    fn book_trade(&mut self, trade: &Trade) -> Checked {
+        let security = known(trade.security, self.securities.len(), "security")?;
+        let buyer = known(trade.buyer, self.participants, "buyer")?;
+        let seller = known(trade.seller, self.participants, "seller")?;
+        let line = self.securities[security];
+        let currency = line.currency as usize;
+        let pieces = i128::from(trade.lots) * i128::from(line.lot_size);
+        let sum = i128::from(trade.sum);
+        expect(sum == i128::from(trade.price) * pieces, || {
+            format!("the sum of {trade:?} is not price × pieces")
+        })?;
+        self.money[buyer][currency] -= sum;
+        self.money[seller][currency] += sum;
+        self.pieces[seller][security] -= pieces;
+        self.pieces[buyer][security] += pieces;
+        if self.phase == Phase::Open {
+            self.traded[security].pieces += pieces;
+            self.traded[security].turnover += sum;
+        }
+        self.take_lots(Side::Buy, buyer, trade.buy_code, trade.lots)?;
+        self.take_lots(Side::Sell, seller, trade.sell_code, trade.lots)
+    }
+
+    /// Takes a trade's lots off the order, where it waits.
+    fn take_lots(&mut self, side: Side, participant: usize, code: u64, lots: u64) -> Checked {
+        let waits = |order: &WaitingOrder| {
+            order.side == side && order.participant == participant && order.code == code
+        };
+        let Some(place) = self.waiting.iter().position(waits) else {
+            return Ok(());
+        };
+        let order = &mut self.waiting[place];
+        expect(lots <= order.lots, || {
+            format!("order {code} traded more lots than it has")
+        })?;
+        order.lots -= lots;
+        if order.lots == 0 {
+            self.waiting.remove(place);
+        }
+        Ok(())
+    }
+
+    fn take_off(&mut self, participant: u64, code: u64) {
+        self.waiting
+            .retain(|order| order.code != code || order.participant as u64 != participant);
+    }
+
+    fn turn_to(&mut self, phase: Phase) {
+        self.waiting.clear();
+        self.phase = phase;
+    }
+}
+
+/// An answer beside its own trades.
+impl Book {
+    fn check_answer(&self, call: &Call, done: &Done, trades: &[Trade]) -> Checked {
+        expect(done.trades == trades.len() as u64, || {
+            format!("{done:?} with {} trades", trades.len())
+        })?;
+        let lots: u64 = trades.iter().map(|trade| trade.lots).sum();
+        expect(done.filled == lots, || {
+            format!("{done:?}, but the trades fill {lots} lots")
+        })?;
+        match call {
+            Call::Group {
+                participant,
+                members,
+            } => check_members(*participant, members, done, trades),
+            _ => Ok(()),
+        }
+    }
+}
+
+/// An accepted group filled each member whole.
+fn check_members(participant: u64, members: &[Member], done: &Done, trades: &[Trade]) -> Checked {
+    for (code, member) in (done.code..).zip(members) {
+        let of_member = trades.iter().filter(|trade| match member.side {
+            Side::Buy => trade.buyer == participant && trade.buy_code == code,
+            Side::Sell => trade.seller == participant && trade.sell_code == code,
+        });
+        let lots: u64 = of_member.map(|trade| trade.lots).sum();
+        expect(lots == member.lots, || {
+            format!("member {member:?} filled {lots} lots")
+        })?;
+    }
+    Ok(())
+}
+
+/// Reckoning and comparing.
+impl Book {
+    pub fn participants(&self) -> usize {
+        self.participants
+    }
+
+    pub fn currencies(&self) -> usize {
+        self.currencies
+    }
+
+    pub fn securities(&self) -> usize {
+        self.securities.len()
+    }
+
+    pub fn compare(&self, engine: &Engine) -> Checked {
+        expect(self.phase == engine.phase(), || {
+            format!("phase: book {:?}, state {:?}", self.phase, engine.phase())
+        })?;
+        expect(self.waiting == engine.waiting(), || {
+            let (book, state) = (&self.waiting, engine.waiting());
+            format!("waiting: book {book:?}, state {state:?}")
+        })?;
+        for (security, &book) in self.traded.iter().enumerate() {
+            let state = engine.traded(security);
+            let same = book.pieces == i128::from(state.pieces)
+                && book.turnover == i128::from(state.turnover);
+            expect(same, || {
+                format!("Q and T of {security}: book {book:?}, state {state:?}")
+            })?;
+        }
+        self.compare_positions(engine)
+    }
+
+    fn compare_positions(&self, engine: &Engine) -> Checked {
+        let needs = self.needs();
+        for participant in 0..self.participants {
+            for currency in 0..self.currencies {
+                let position = engine.money(participant, currency);
+                self.compare_money(&needs, participant, currency, position)?;
+            }
+            for security in 0..self.securities.len() {
+                let position = engine.pieces(participant, security);
+                self.compare_pieces(&needs, participant, security, position)?;
+            }
+        }
+        Ok(())
+    }
+
+    pub fn compare_money(
+        &self,
+        needs: &Needs,
+        participant: usize,
+        currency: usize,
+        position: Position,
+    ) -> Checked {
+        let balance = self.money[participant][currency];
+        let need = needs.money[participant][currency];
+        compare_position(balance, need, position)
+            .map_err(|fault| format!("money {participant}, {currency}: {fault}"))
+    }
+
+    pub fn compare_pieces(
+        &self,
+        needs: &Needs,
+        participant: usize,
+        security: usize,
+        position: Position,
+    ) -> Checked {
+        let balance = self.pieces[participant][security];
+        let need = needs.pieces[participant][security];
+        compare_position(balance, need, position)
+            .map_err(|fault| format!("pieces {participant}, {security}: {fault}"))
+    }
+
+    /// What the book's waiting orders need, a closing buy at the closing price
+    /// reckoned from the book's own Q and T.
+    pub fn needs(&self) -> Needs {
+        let mut needs = Needs {
+            money: vec![vec![0; self.currencies]; self.participants],
+            pieces: vec![vec![0; self.securities.len()]; self.participants],
+        };
+        for order in &self.waiting {
+            let line = self.securities[order.security];
+            let pieces = i128::from(order.lots) * i128::from(line.lot_size);
+            let price = match order.kind {
+                WaitingKind::Kept(price) => i128::from(price),
+                WaitingKind::Closing => self.closing_price(order.security),
+            };
+            let currency = line.currency as usize;
+            match order.side {
+                Side::Buy => needs.money[order.participant][currency] += price * pieces,
+                Side::Sell => needs.pieces[order.participant][order.security] += pieces,
+            }
+        }
+        needs
+    }
+}
+
+impl Book {
+    /// T / Q rounded down; 0 where nothing traded.
+    fn closing_price(&self, security: usize) -> i128 {
+        let traded = self.traded[security];
+        traded.turnover.checked_div(traded.pieces).unwrap_or(0)
+    }
+}
+
+/// Blocked amounts by participant, then currency or security.
+pub struct Needs {
+    money: Vec<Vec<i128>>,
+    pieces: Vec<Vec<i128>>,
+}
+
+fn compare_position(balance: i128, need: i128, position: Position) -> Checked {
+    let sum = i128::from(position.free) + i128::from(position.blocked);
+    expect(sum == balance, || {
+        format!("balance {balance}, but {position:?}")
+    })?;
+    expect(i128::from(position.blocked) == need, || {
+        format!("need {need}, but {position:?}")
+    })
+}

@@ -1,0 +1,165 @@
+//! The words of the trading day: what a call is handed and what it answers.
+
+/// Numbers of the refusals, by the question whose answer was "no".
+pub mod refusal {
+    pub const UNSOUND: u64 = 1;
+    pub const GROUP_SIZE: u64 = 3;
+    pub const PARTICIPANT: u64 = 4;
+    pub const CURRENCY_OR_SECURITY: u64 = 5;
+    pub const PHASE: u64 = 6;
+    pub const AMOUNT: u64 = 7;
+    pub const PRICE: u64 = 8;
+    pub const TOTAL: u64 = 9;
+    pub const FREE_FOR_DECREASE: u64 = 10;
+    pub const NOTHING_TRADED: u64 = 11;
+    pub const BOOK_FULL: u64 = 12;
+    pub const CODES_USED_UP: u64 = 13;
+    pub const FREE_FOR_ORDER: u64 = 14;
+    pub const NOT_FILLABLE: u64 = 15;
+    pub const NO_SUCH_ORDER: u64 = 16;
+    pub const COUNTS: u64 = 17;
+    pub const SECURITY_LINE: u64 = 18;
+    pub const MALFORMED: u64 = 19;
+    pub const TEXT_TOO_LONG: u64 = 20;
+}
+
+#[derive(Clone, Copy, PartialEq, Eq, Debug)]
+pub enum Side {
+    Buy,
+    Sell,
+}
+
+#[derive(Clone, Copy, PartialEq, Eq, Debug)]
+pub enum EntryKind {
+    Kept,
+    Immediate,
+    FillOrKill,
+}
+
+#[derive(Clone, Copy, PartialEq, Eq, Debug)]
+pub enum Phase {
+    Open,
+    Closing,
+    Closed,
+}
+
+/// Only a kept order has a price of its own.
+#[derive(Clone, Copy, PartialEq, Eq, Debug)]
+pub enum WaitingKind {
+    Kept(u64),
+    Closing,
+}
+
+#[derive(Clone, Copy, PartialEq, Eq, Debug)]
+pub struct WaitingOrder {
+    pub code: u64,
+    pub participant: usize,
+    pub side: Side,
+    pub security: usize,
+    pub lots: u64,
+    pub kind: WaitingKind,
+}
+
+#[derive(Clone, Copy, PartialEq, Eq, Debug)]
+pub struct SecurityLine {
+    pub currency: u64,
+    pub lot_size: u64,
+    pub price_step: u64,
+}
+
+#[derive(Clone, PartialEq, Eq, Debug)]
+pub struct Opening {
+    pub participants: u64,
+    pub currencies: u64,
+    pub securities: Vec<SecurityLine>,
+}
+
+#[derive(Clone, Copy, PartialEq, Eq, Debug)]
+pub struct Entry {
+    pub participant: u64,
+    pub side: Side,
+    pub security: u64,
+    pub price: u64,
+    pub lots: u64,
+    pub kind: EntryKind,
+}
+
+#[derive(Clone, Copy, PartialEq, Eq, Debug)]
+pub struct ClosingEntry {
+    pub participant: u64,
+    pub side: Side,
+    pub security: u64,
+    pub lots: u64,
+}
+
+/// One order of a linked group; its participant is the group's.
+#[derive(Clone, Copy, PartialEq, Eq, Debug)]
+pub struct Member {
+    pub side: Side,
+    pub security: u64,
+    pub price: u64,
+    pub lots: u64,
+}
+
+/// A movement of free money (`asset` is a currency) or of free pieces
+/// (`asset` is a security).
+#[derive(Clone, Copy, PartialEq, Eq, Debug)]
+pub struct Movement {
+    pub participant: u64,
+    pub asset: u64,
+    pub amount: u64,
+}
+
+#[derive(Clone, PartialEq, Eq, Debug)]
+pub enum Call {
+    MoneyUp(Movement),
+    MoneyDown(Movement),
+    PiecesUp(Movement),
+    PiecesDown(Movement),
+    Enter(Entry),
+    Cancel {
+        participant: u64,
+        code: u64,
+    },
+    Group {
+        participant: u64,
+        members: Vec<Member>,
+    },
+    StartClosing,
+    EnterClosing(ClosingEntry),
+    EndSession,
+}
+
+#[derive(Clone, Copy, PartialEq, Eq, Debug)]
+pub struct Refused {
+    pub number: u64,
+    pub place: u64,
+}
+
+#[derive(Clone, Copy, PartialEq, Eq, Debug, Default)]
+pub struct Done {
+    pub code: u64,
+    pub filled: u64,
+    pub left: u64,
+    pub trades: u64,
+}
+
+pub type Answer = Result<Done, Refused>;
+
+/// A refusal without a place.
+pub fn refused(number: u64) -> Refused {
+    Refused { number, place: 0 }
+}
+
+/// One entry of the trade list, in the list's order of numbers.
+#[derive(Clone, Copy, PartialEq, Eq, Debug)]
+pub struct Trade {
+    pub buy_code: u64,
+    pub sell_code: u64,
+    pub buyer: u64,
+    pub seller: u64,
+    pub security: u64,
+    pub price: u64,
+    pub lots: u64,
+    pub sum: u64,
+}

@@ -1,0 +1,369 @@
+//! Damaged day files: good ones with faults put in, and texts that never were
+//! good.
+
+use crate::random::Random;
+use crate::reader::TEXT_LIMIT;
+use crate::write::line;
+
+type Lines = Vec<Vec<u8>>;
+
+const NUMBERS: [&str; 16] = [
+    "0",
+    "00",
+    "01",
+    "1",
+    "8",
+    "9",
+    "16",
+    "17",
+    "+1",
+    "-1",
+    "1e3",
+    "",
+    "9999999999999999",
+    "10000000000000000",
+    "00000000000000001",
+    "18446744073709551616",
+];
+
+const LINES: [&str; 30] = [
+    "",
+    ",",
+    "C",
+    "Z",
+    "C,",
+    "Z,0",
+    "c",
+    "H,1,1,1",
+    "S,0,10,5",
+    "M,B,0,100,1",
+    "M,L,0,100,1",
+    "M,X,0,100,1",
+    "G,0,0",
+    "G,0,1",
+    "G,0,2",
+    "G,0,8",
+    "G,0,9",
+    "G,0,9999999999999999",
+    "G,0",
+    "G,0,2,",
+    "G,99,3",
+    "B,0,0,100,1",
+    "B,0,0,100,1,X",
+    "L,0,0,100,1,KK",
+    "P,0,B,0,1",
+    "P,0,b,0,1",
+    "X,0",
+    "Y,0,0,1",
+    "R,0,0,1,",
+    "AB,0,0,1",
+];
+
+/// Of good form, but out of range in every heading.
+const WRONG_SECURITIES: [&str; 6] = [
+    "S,4,1,1",
+    "S,0,0,1",
+    "S,0,1001,1",
+    "S,0,1,0",
+    "S,0,1,1000001",
+    "S,9999999999999999,9999999999999999,9999999999999999",
+];
+
+const DAMAGES: [fn(&mut Random, &mut Lines); 19] = [
+    flip_byte,
+    flip_byte,
+    put_typical_byte,
+    put_typical_byte,
+    delete_byte,
+    delete_line,
+    double_line,
+    swap_lines,
+    insert_line,
+    insert_line,
+    change_number,
+    change_number,
+    add_field,
+    drop_field,
+    add_carriage_return,
+    change_heading_count,
+    surplus_security,
+    wrong_security,
+    unfinished_group,
+];
+
+/// One to four faults somewhere in the text, and at times one at its end.
+pub fn damaged(random: &mut Random, text: Vec<u8>) -> Vec<u8> {
+    let mut lines: Lines = text
+        .split(|&byte| byte == b'\n')
+        .map(|line| line.to_vec())
+        .collect();
+    // The text's last byte 10 leaves an empty piece that is no line.
+    lines.pop();
+    for _ in 0..random.within(1, 4) {
+        let damage = random.pick(&DAMAGES);
+        damage(random, &mut lines);
+    }
+    let mut text = lines.join(&b'\n');
+    text.push(b'\n');
+    damage_end(random, &mut text);
+    text
+}
+
+fn damage_end(random: &mut Random, text: &mut Vec<u8>) {
+    match random.below(100) {
+        0..=19 => {
+            text.pop();
+        }
+        20..=29 => text.push(b'\n'),
+        30..=39 => {
+            let length = random.index(text.len());
+            text.truncate(length);
+        }
+        40 => pad(random, text, TEXT_LIMIT),
+        41..=43 => {
+            let length = TEXT_LIMIT + 1 + random.pick(&[0, 0, 1, 4_000]);
+            pad(random, text, length);
+        }
+        _ => {}
+    }
+}
+
+/// Fills up to the length with empty lines, short calls or one long line.
+fn pad(random: &mut Random, text: &mut Vec<u8>, length: usize) {
+    let filling: &[u8] = random.pick(&[&b"\n"[..], b"Z\n", b"X,0,1\n", b"1", b"C\n\n"]);
+    let missing = length.saturating_sub(text.len());
+    text.extend(filling.iter().cycle().take(missing));
+}
+
+/// A line, rarely one of the heading, since a fault there ends the output.
+fn any_line(random: &mut Random, lines: &Lines) -> usize {
+    if random.chance(90) && lines.len() > 6 {
+        6 + random.index(lines.len() - 6)
+    } else {
+        random.index(lines.len())
+    }
+}
+
+fn flip_byte(random: &mut Random, lines: &mut Lines) {
+    put_byte(random, lines, |random, byte| byte ^ (1 << random.below(8)));
+}
+
+fn put_typical_byte(random: &mut Random, lines: &mut Lines) {
+    put_byte(random, lines, |random, _| {
+        random.pick(b",,0123456789HSRWDEBLXGMCPZKIA\r\n +-\0\xFF")
+    });
+}
+
+fn put_byte(random: &mut Random, lines: &mut Lines, new: fn(&mut Random, u8) -> u8) {
+    if lines.is_empty() {
+        return;
+    }
+    let line = any_line(random, lines);
+    let line = &mut lines[line];
+    if !line.is_empty() {
+        let place = random.index(line.len());
+        line[place] = new(random, line[place]);
+    }
+}
+
+fn delete_byte(random: &mut Random, lines: &mut Lines) {
+    if lines.is_empty() {
+        return;
+    }
+    let line = any_line(random, lines);
+    let line = &mut lines[line];
+    if !line.is_empty() {
+        let place = random.index(line.len());
+        line.remove(place);
+    }
+}
+
+fn delete_line(random: &mut Random, lines: &mut Lines) {
+    if !lines.is_empty() {
+        let line = any_line(random, lines);
+        lines.remove(line);
+    }
+}
+
+fn double_line(random: &mut Random, lines: &mut Lines) {
+    if !lines.is_empty() {
+        let line = any_line(random, lines);
+        lines.insert(line, lines[line].clone());
+    }
+}
+
+fn swap_lines(random: &mut Random, lines: &mut Lines) {
+    if !lines.is_empty() {
+        let first = any_line(random, lines);
+        let second = any_line(random, lines);
+        lines.swap(first, second);
+    }
+}
+
+fn insert_line(random: &mut Random, lines: &mut Lines) {
+    if !lines.is_empty() {
+        let line = any_line(random, lines);
+        let inserted = random.pick(&LINES);
+        lines.insert(line, inserted.into());
+    }
+}
+
+/// Applies a change to the fields of some line.
+fn change_fields(
+    random: &mut Random,
+    lines: &mut Lines,
+    change: fn(&mut Random, &mut Vec<Vec<u8>>),
+) {
+    if lines.is_empty() {
+        return;
+    }
+    let line = any_line(random, lines);
+    let line = &mut lines[line];
+    let mut fields: Vec<Vec<u8>> = line
+        .split(|&byte| byte == b',')
+        .map(|field| field.to_vec())
+        .collect();
+    change(random, &mut fields);
+    *line = fields.join(&b',');
+}
+
+fn change_number(random: &mut Random, lines: &mut Lines) {
+    change_fields(random, lines, |random, fields| {
+        let last = fields.len() - 1;
+        let field = (1 + random.index(last.max(1))).min(last);
+        fields[field] = random.pick(&NUMBERS).into();
+    });
+}
+
+fn add_field(random: &mut Random, lines: &mut Lines) {
+    change_fields(random, lines, |random, fields| {
+        let place = random.index(fields.len() + 1);
+        fields.insert(place, random.pick(&["", "0", "1", "K", " "]).into());
+    });
+}
+
+fn drop_field(random: &mut Random, lines: &mut Lines) {
+    change_fields(random, lines, |random, fields| {
+        let place = random.index(fields.len());
+        fields.remove(place);
+    });
+}
+
+fn add_carriage_return(random: &mut Random, lines: &mut Lines) {
+    if !lines.is_empty() {
+        let line = any_line(random, lines);
+        lines[line].push(b'\r');
+    }
+}
+
+/// A count too small or too great for the lines that follow, or out of range.
+fn change_heading_count(random: &mut Random, lines: &mut Lines) {
+    if random.chance(50) || lines.is_empty() {
+        return;
+    }
+    let mut fields: Vec<Vec<u8>> = lines[0]
+        .split(|&byte| byte == b',')
+        .map(|field| field.to_vec())
+        .collect();
+    let field = random.index(fields.len());
+    fields[field] = random.pick(&NUMBERS).into();
+    lines[0] = fields.join(&b',');
+}
+
+fn surplus_security(random: &mut Random, lines: &mut Lines) {
+    if let Some(last) = lines.iter().rposition(|line| line.first() == Some(&b'S')) {
+        let copies = random.within(1, 2);
+        for _ in 0..copies {
+            lines.insert(last, lines[last].clone());
+        }
+    }
+}
+
+fn wrong_security(random: &mut Random, lines: &mut Lines) {
+    let is_security = |line: &Vec<u8>| line.first() == Some(&b'S');
+    if random.chance(50) {
+        return;
+    }
+    if let Some(line) = lines.iter_mut().rfind(|line| is_security(line)) {
+        *line = random.pick(&WRONG_SECURITIES).into();
+    }
+}
+
+/// The last line is a group whose members are missing.
+fn unfinished_group(random: &mut Random, lines: &mut Lines) {
+    lines.push(format!("G,0,{}", random.within(2, 8)).into());
+    for _ in 0..random.below(3) {
+        lines.push(b"M,B,0,100,1".to_vec());
+    }
+}
+
+/// A text that never was a good day.
+pub fn oddity(random: &mut Random) -> Vec<u8> {
+    match random.below(40) {
+        0 => Vec::new(),
+        1..=3 => random_bytes(random),
+        4 => headed(random, b"\n"),
+        5 => headed(random, b"C\n"),
+        6 => headed(random, b"1"),
+        7..=16 => random_lines(random),
+        17..=26 => odd_heading(random),
+        _ => many_securities(random),
+    }
+}
+
+fn random_bytes(random: &mut Random) -> Vec<u8> {
+    let length = random.pick(&[1, 10, 100, 1_000, TEXT_LIMIT, TEXT_LIMIT + 1]);
+    (0..length).map(|_| random.number() as u8).collect()
+}
+
+/// A good heading and then lines without sense.
+fn random_lines(random: &mut Random) -> Vec<u8> {
+    let mut text = b"H,2,1,1\nS,0,10,5\nR,0,0,100000\nD,1,0,1000\n".to_vec();
+    for _ in 0..random.within(1, 200) {
+        line(&mut text, random.pick(&LINES));
+    }
+    text
+}
+
+fn odd_heading(random: &mut Random) -> Vec<u8> {
+    let mut text = Vec::new();
+    let [first, second, third] = [0; 3].map(|_| random.pick(&NUMBERS));
+    line(&mut text, &format!("H,{first},{second},{third}"));
+    for _ in 0..random.below(20) {
+        let [first, second, third] = [0; 3].map(|_| random.pick(&NUMBERS));
+        line(&mut text, &format!("S,{first},{second},{third}"));
+    }
+    text
+}
+
+/// A good heading, filled up around the greatest length.
+fn headed(random: &mut Random, filling: &[u8]) -> Vec<u8> {
+    let mut text = b"H,2,1,1\nS,0,10,5\n".to_vec();
+    let length = random.pick(&[1_000, TEXT_LIMIT - 1, TEXT_LIMIT, TEXT_LIMIT + 1]);
+    text.extend(filling.iter().cycle().take(length - text.len()));
+    text
+}
+
+/// As many S lines as said, or one off, at and over the limit of 16; at times
+/// one of them is out of range.
+fn many_securities(random: &mut Random) -> Vec<u8> {
+    let said = random.pick(&[15, 16, 17, 18, 1_000]);
+    let given = random.pick(&[said - 1, said, said, said + 1]);
+    let faulty = random.below(given * 2);
+    let mut text = Vec::new();
+    let participants = random.pick(&[0, 1, 16, 17]);
+    line(&mut text, &format!("H,{participants},4,{said}"));
+    for place in 0..given {
+        let wrong = random.pick(&WRONG_SECURITIES);
+        line(
+            &mut text,
+            if place == faulty {
+                wrong
+            } else {
+                "S,3,1000,1000000"
+            },
+        );
+    }
+    line(&mut text, "R,0,3,1000000000000000");
+    text
+}

@@ -1,0 +1,321 @@
+//! The engine: one trading day's state and the calls that change it.
+//! A refused call changes nothing.
+
+mod closing;
+mod positions;
+mod questions;
+mod soundness;
+mod trading;
+
+use crate::calls::{
+    refusal, refused, Answer, Call, ClosingEntry, Done, Entry, Member, Movement, Opening, Phase,
+    Refused, SecurityLine, Trade, WaitingOrder,
+};
+
+pub const PARTICIPANT_LIMIT: usize = 16;
+pub const CURRENCY_LIMIT: usize = 4;
+pub const SECURITY_LIMIT: usize = 16;
+pub const LOT_SIZE_LIMIT: u64 = 1_000;
+pub const PRICE_LIMIT: u64 = 1_000_000;
+pub const LOTS_LIMIT: u64 = 10_000;
+pub const MONEY_LIMIT: u64 = 1_000_000_000_000_000;
+pub const PIECES_LIMIT: u64 = 1_000_000_000_000;
+pub const WAITING_LIMIT: usize = 128;
+pub const CODE_LIMIT: u64 = 1_000_000;
+pub const GROUP_SIZES: std::ops::RangeInclusive<usize> = 2..=8;
+
+#[derive(Clone, Copy, PartialEq, Eq, Debug, Default)]
+pub struct Position {
+    pub free: u64,
+    pub blocked: u64,
+}
+
+/// What a security traded while open: Q pieces and T money.
+#[derive(Clone, Copy, PartialEq, Eq, Debug, Default)]
+pub struct Traded {
+    pub pieces: u64,
+    pub turnover: u64,
+}
+
+impl Traded {
+    /// T / Q rounded down; 0 where nothing traded, since no order asks then.
+    pub fn closing_price(&self) -> u64 {
+        self.turnover.checked_div(self.pieces).unwrap_or(0)
+    }
+}
+
+/// What the opening fixes for the whole day.
+#[derive(Clone, PartialEq, Eq, Debug)]
+struct Market {
+    participants: usize,
+    currencies: usize,
+    securities: Vec<SecurityLine>,
+}
+
+/// What the calls change. Waiting orders stand by rising code.
+#[derive(Clone, PartialEq, Eq, Debug)]
+struct State {
+    money: [[Position; CURRENCY_LIMIT]; PARTICIPANT_LIMIT],
+    pieces: [[Position; SECURITY_LIMIT]; PARTICIPANT_LIMIT],
+    traded: [Traded; SECURITY_LIMIT],
+    waiting: Vec<WaitingOrder>,
+    codes_given: u64,
+    phase: Phase,
+}
+
+#[derive(Clone, PartialEq, Eq, Debug)]
+pub struct Engine {
+    market: Market,
+    state: State,
+    asks_soundness: bool,
+}
+
+fn ensure(holds: bool, number: u64) -> Result<(), Refused> {
+    if holds {
+        Ok(())
+    } else {
+        Err(refused(number))
+    }
+}
+
+fn line_in_range(line: &SecurityLine, currencies: usize) -> bool {
+    line.currency < currencies as u64
+        && (1..=LOT_SIZE_LIMIT).contains(&line.lot_size)
+        && (1..=PRICE_LIMIT).contains(&line.price_step)
+}
+
+fn price_allowed(line: &SecurityLine, price: u64) -> bool {
+    (1..=PRICE_LIMIT).contains(&price) && price.is_multiple_of(line.price_step)
+}
+
+fn count_known(count: u64, limit: usize) -> Option<usize> {
+    usize::try_from(count)
+        .ok()
+        .filter(|count| (1..=limit).contains(count))
+}
+
+/// Opening, and the parts of the state that others may read.
+impl Engine {
+    pub fn open(opening: &Opening, asks_soundness: bool) -> Result<Engine, Refused> {
+        let counts = refused(refusal::COUNTS);
+        let participants = count_known(opening.participants, PARTICIPANT_LIMIT).ok_or(counts)?;
+        let currencies = count_known(opening.currencies, CURRENCY_LIMIT).ok_or(counts)?;
+        count_known(opening.securities.len() as u64, SECURITY_LIMIT).ok_or(counts)?;
+        for (place, line) in (1..).zip(&opening.securities) {
+            if !line_in_range(line, currencies) {
+                let number = refusal::SECURITY_LINE;
+                return Err(Refused { number, place });
+            }
+        }
+        let market = Market {
+            participants,
+            currencies,
+            securities: opening.securities.clone(),
+        };
+        Ok(Engine {
+            market,
+            state: State::opened(),
+            asks_soundness,
+        })
+    }
+
+    pub fn participants(&self) -> usize {
+        self.market.participants
+    }
+
+    pub fn currencies(&self) -> usize {
+        self.market.currencies
+    }
+
+    pub fn securities(&self) -> &[SecurityLine] {
+        &self.market.securities
+    }
+
+    pub fn money(&self, participant: usize, currency: usize) -> Position {
+        self.state.money[participant][currency]
+    }
+
+    pub fn pieces(&self, participant: usize, security: usize) -> Position {
+        self.state.pieces[participant][security]
+    }
+
+    pub fn traded(&self, security: usize) -> Traded {
+        self.state.traded[security]
+    }
+
+    pub fn waiting(&self) -> &[WaitingOrder] {
+        &self.state.waiting
+    }
+
+    pub fn codes_given(&self) -> u64 {
+        self.state.codes_given
+    }
+
+    pub fn phase(&self) -> Phase {
+        self.state.phase
+    }
+}
+
+impl State {
+    fn opened() -> State {
+        State {
+            money: Default::default(),
+            pieces: Default::default(),
+            traded: Default::default(),
+            waiting: Vec::with_capacity(WAITING_LIMIT),
+            codes_given: 0,
+            phase: Phase::Open,
+        }
+    }
+}
+
+/// The calls. Trades are written after those already in the list, which grows
+/// as needed, so question 2 has no counterpart here.
+impl Engine {
+    pub fn call(&mut self, call: &Call, trades: &mut Vec<Trade>) -> Answer {
+        match call {
+            Call::MoneyUp(movement) => self.increase_money(movement),
+            Call::MoneyDown(movement) => self.decrease_money(movement),
+            Call::PiecesUp(movement) => self.increase_pieces(movement),
+            Call::PiecesDown(movement) => self.decrease_pieces(movement),
+            Call::Enter(entry) => self.enter(entry, trades),
+            Call::Cancel { participant, code } => self.cancel(*participant, *code),
+            Call::Group {
+                participant,
+                members,
+            } => self.enter_group(*participant, members, trades),
+            Call::StartClosing => self.start_closing(),
+            Call::EnterClosing(entry) => self.enter_closing(entry),
+            Call::EndSession => self.end_session(trades),
+        }
+    }
+
+    pub fn increase_money(&mut self, movement: &Movement) -> Answer {
+        self.ask_soundness()?;
+        let (participant, currency) = self.known_money(movement)?;
+        ensure(
+            (1..=MONEY_LIMIT).contains(&movement.amount),
+            refusal::AMOUNT,
+        )?;
+        let total = self.total_money(currency);
+        ensure(total + movement.amount <= MONEY_LIMIT, refusal::TOTAL)?;
+        self.state.money[participant][currency].free += movement.amount;
+        Ok(Done::default())
+    }
+
+    pub fn decrease_money(&mut self, movement: &Movement) -> Answer {
+        self.ask_soundness()?;
+        let (participant, currency) = self.known_money(movement)?;
+        ensure(
+            (1..=MONEY_LIMIT).contains(&movement.amount),
+            refusal::AMOUNT,
+        )?;
+        let position = &mut self.state.money[participant][currency];
+        ensure(movement.amount <= position.free, refusal::FREE_FOR_DECREASE)?;
+        position.free -= movement.amount;
+        Ok(Done::default())
+    }
+
+    pub fn increase_pieces(&mut self, movement: &Movement) -> Answer {
+        self.ask_soundness()?;
+        let (participant, security) = self.known_pieces(movement)?;
+        ensure(
+            (1..=PIECES_LIMIT).contains(&movement.amount),
+            refusal::AMOUNT,
+        )?;
+        let total = self.total_pieces(security);
+        ensure(total + movement.amount <= PIECES_LIMIT, refusal::TOTAL)?;
+        self.state.pieces[participant][security].free += movement.amount;
+        Ok(Done::default())
+    }
+
+    pub fn decrease_pieces(&mut self, movement: &Movement) -> Answer {
+        self.ask_soundness()?;
+        let (participant, security) = self.known_pieces(movement)?;
+        ensure(
+            (1..=PIECES_LIMIT).contains(&movement.amount),
+            refusal::AMOUNT,
+        )?;
+        let position = &mut self.state.pieces[participant][security];
+        ensure(movement.amount <= position.free, refusal::FREE_FOR_DECREASE)?;
+        position.free -= movement.amount;
+        Ok(Done::default())
+    }
+
+    pub fn enter(&mut self, entry: &Entry, trades: &mut Vec<Trade>) -> Answer {
+        self.ask_soundness()?;
+        self.admit(entry, trades)
+    }
+
+    pub fn cancel(&mut self, participant: u64, code: u64) -> Answer {
+        self.ask_soundness()?;
+        let participant = self.known_participant(participant)?;
+        let waiting = &self.state.waiting;
+        let place = waiting
+            .binary_search_by_key(&code, |order| order.code)
+            .ok()
+            .filter(|&place| waiting[place].participant == participant)
+            .ok_or(refused(refusal::NO_SUCH_ORDER))?;
+        let order = self.state.waiting.remove(place);
+        self.unblock(&order);
+        Ok(Done {
+            code,
+            ..Done::default()
+        })
+    }
+
+    pub fn enter_group(
+        &mut self,
+        participant: u64,
+        members: &[Member],
+        trades: &mut Vec<Trade>,
+    ) -> Answer {
+        self.ask_soundness()?;
+        ensure(GROUP_SIZES.contains(&members.len()), refusal::GROUP_SIZE)?;
+        let earlier = self.state.clone();
+        let earlier_trades = trades.len();
+        self.admit_members(participant, members, trades)
+            .inspect_err(|_| {
+                self.state = earlier;
+                trades.truncate(earlier_trades);
+            })
+    }
+
+    pub fn start_closing(&mut self) -> Answer {
+        self.ask_soundness()?;
+        ensure(self.state.phase == Phase::Open, refusal::PHASE)?;
+        self.take_all_off();
+        self.state.phase = Phase::Closing;
+        Ok(Done::default())
+    }
+
+    pub fn enter_closing(&mut self, entry: &ClosingEntry) -> Answer {
+        self.ask_soundness()?;
+        let order = self.question_closing(entry)?;
+        self.block(&order);
+        self.state.codes_given = order.code;
+        self.state.waiting.push(order);
+        Ok(Done {
+            code: order.code,
+            left: order.lots,
+            ..Done::default()
+        })
+    }
+
+    pub fn end_session(&mut self, trades: &mut Vec<Trade>) -> Answer {
+        self.ask_soundness()?;
+        ensure(self.state.phase == Phase::Closing, refusal::PHASE)?;
+        let earlier_trades = trades.len();
+        for security in 0..self.market.securities.len() {
+            self.pair_closing(security, trades);
+        }
+        self.take_all_off();
+        self.state.phase = Phase::Closed;
+        let written = &trades[earlier_trades..];
+        Ok(Done {
+            filled: written.iter().map(|trade| trade.lots).sum(),
+            trades: written.len() as u64,
+            ..Done::default()
+        })
+    }
+}

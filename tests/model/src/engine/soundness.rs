@@ -1,0 +1,130 @@
+//! Question 1: is the state sound? Asked over the known places only; places
+//! past the counts aren't read.
+
+use super::{
+    line_in_range, price_allowed, Engine, Position, CODE_LIMIT, CURRENCY_LIMIT, LOTS_LIMIT,
+    MONEY_LIMIT, PARTICIPANT_LIMIT, PIECES_LIMIT, PRICE_LIMIT, SECURITY_LIMIT, WAITING_LIMIT,
+};
+use crate::calls::{Phase, Side, WaitingKind, WaitingOrder};
+
+/// Most pieces that one code's order can trade: 10,000 lots of 1,000.
+const PIECES_PER_CODE: u64 = 10_000_000;
+
+struct Needs {
+    money: [[u64; CURRENCY_LIMIT]; PARTICIPANT_LIMIT],
+    pieces: [[u64; SECURITY_LIMIT]; PARTICIPANT_LIMIT],
+}
+
+impl Engine {
+    /// Each test keeps the numbers of the later ones small enough to reckon
+    /// with, so their order matters.
+    pub fn is_sound(&self) -> bool {
+        self.market_sound()
+            && self.state.codes_given <= CODE_LIMIT
+            && self.traded_sound()
+            && self.orders_sound()
+            && self.positions_sound()
+    }
+
+    fn market_sound(&self) -> bool {
+        let market = &self.market;
+        (1..=PARTICIPANT_LIMIT).contains(&market.participants)
+            && (1..=CURRENCY_LIMIT).contains(&market.currencies)
+            && (1..=SECURITY_LIMIT).contains(&market.securities.len())
+            && market
+                .securities
+                .iter()
+                .all(|line| line_in_range(line, market.currencies))
+    }
+
+    fn traded_sound(&self) -> bool {
+        let most_pieces = PIECES_PER_CODE * self.state.codes_given;
+        let known = &self.state.traded[..self.market.securities.len()];
+        known.iter().all(|traded| {
+            traded.pieces <= most_pieces
+                && traded.turnover >= traded.pieces
+                && traded.turnover <= PRICE_LIMIT * traded.pieces
+        })
+    }
+
+    fn orders_sound(&self) -> bool {
+        let mut last_code = 0;
+        self.state.waiting.len() <= WAITING_LIMIT
+            && self.state.waiting.iter().all(|order| {
+                let rising = order.code > last_code;
+                last_code = order.code;
+                rising && self.order_sound(order)
+            })
+    }
+
+    fn order_sound(&self, order: &WaitingOrder) -> bool {
+        order.code <= self.state.codes_given
+            && order.participant < self.market.participants
+            && order.security < self.market.securities.len()
+            && (1..=LOTS_LIMIT).contains(&order.lots)
+            && self.kind_sound(order)
+    }
+
+    fn kind_sound(&self, order: &WaitingOrder) -> bool {
+        match order.kind {
+            WaitingKind::Kept(price) => {
+                self.state.phase == Phase::Open
+                    && price_allowed(&self.market.securities[order.security], price)
+            }
+            WaitingKind::Closing => {
+                self.state.phase == Phase::Closing && self.state.traded[order.security].pieces > 0
+            }
+        }
+    }
+
+    fn positions_sound(&self) -> bool {
+        let needs = self.needs();
+        (0..self.market.currencies).all(|currency| self.money_sound(currency, &needs))
+            && (0..self.market.securities.len()).all(|security| self.pieces_sound(security, &needs))
+    }
+
+    fn needs(&self) -> Needs {
+        let mut needs = Needs {
+            money: Default::default(),
+            pieces: Default::default(),
+        };
+        for order in &self.state.waiting {
+            let need = match order.side {
+                Side::Buy => &mut needs.money[order.participant][self.currency(order.security)],
+                Side::Sell => &mut needs.pieces[order.participant][order.security],
+            };
+            *need += self.need(order);
+        }
+        needs
+    }
+
+    fn money_sound(&self, currency: usize, needs: &Needs) -> bool {
+        let mut total = 0;
+        (0..self.market.participants).all(|participant| {
+            let position = self.state.money[participant][currency];
+            let need = needs.money[participant][currency];
+            position_sound(position, need, MONEY_LIMIT, &mut total)
+        })
+    }
+
+    fn pieces_sound(&self, security: usize, needs: &Needs) -> bool {
+        let mut total = 0;
+        (0..self.market.participants).all(|participant| {
+            let position = self.state.pieces[participant][security];
+            let need = needs.pieces[participant][security];
+            position_sound(position, need, PIECES_LIMIT, &mut total)
+        })
+    }
+}
+
+/// Bounds each amount before adding it, so that no sum overflows.
+fn position_sound(position: Position, need: u64, limit: u64, total: &mut u64) -> bool {
+    if position.blocked != need || position.free > limit || position.blocked > limit {
+        return false;
+    }
+    *total += position.free + position.blocked;
+    *total <= limit
+}
+
+#[cfg(test)]
+mod tests;

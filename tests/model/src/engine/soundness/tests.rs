@@ -1,0 +1,257 @@
+//! Each part of "Sound means", broken one at a time, and the questions that no
+//! day file reaches: 1 and 13.
+
+use crate::calls::{
+    refusal, refused, Call, ClosingEntry, Entry, EntryKind, Movement, Opening, Phase, SecurityLine,
+    Side, WaitingKind,
+};
+use crate::engine::{Engine, CODE_LIMIT, MONEY_LIMIT, PIECES_LIMIT};
+
+fn entry(participant: u64, side: Side, price: u64, lots: u64) -> Call {
+    Call::Enter(Entry {
+        participant,
+        side,
+        security: 0,
+        price,
+        lots,
+        kind: EntryKind::Kept,
+    })
+}
+
+fn movement(participant: u64, amount: u64) -> Movement {
+    Movement {
+        participant,
+        asset: 0,
+        amount,
+    }
+}
+
+fn run(engine: &mut Engine, calls: &[Call]) {
+    for call in calls {
+        let answer = engine.call(call, &mut Vec::new());
+        assert!(answer.is_ok(), "{call:?}: {answer:?}");
+    }
+}
+
+/// Two securities of lot 10 and step 5; one trade, and two orders waiting.
+fn trading() -> Engine {
+    let line = SecurityLine {
+        currency: 0,
+        lot_size: 10,
+        price_step: 5,
+    };
+    let opening = Opening {
+        participants: 2,
+        currencies: 1,
+        securities: vec![line, line],
+    };
+    let mut engine = Engine::open(&opening, true).expect("the opening is in range");
+    let calls = [
+        Call::MoneyUp(movement(0, 1_000_000)),
+        Call::PiecesUp(movement(1, 1_000)),
+        entry(1, Side::Sell, 100, 10),
+        entry(0, Side::Buy, 100, 12),
+        entry(1, Side::Sell, 105, 3),
+    ];
+    run(&mut engine, &calls);
+    engine
+}
+
+fn closing() -> Engine {
+    let mut engine = trading();
+    let order = Call::EnterClosing(ClosingEntry {
+        participant: 0,
+        side: Side::Buy,
+        security: 0,
+        lots: 4,
+    });
+    run(&mut engine, &[Call::StartClosing, order]);
+    engine
+}
+
+fn assert_unsound(name: &str, mut engine: Engine, break_it: impl Fn(&mut Engine)) {
+    assert!(engine.is_sound(), "{name}: sound at first");
+    break_it(&mut engine);
+    assert!(!engine.is_sound(), "{name}: unsound once broken");
+    let before = engine.clone();
+    let answer = engine.call(&Call::MoneyUp(movement(0, 1)), &mut Vec::new());
+    assert_eq!(answer, Err(refused(refusal::UNSOUND)), "{name}");
+    assert!(engine == before, "{name}: a refusal changes nothing");
+}
+
+/// What is broken, in words and in deed.
+type Break = (&'static str, fn(&mut Engine));
+
+fn assert_each_unsound(start: fn() -> Engine, breaks: &[Break]) {
+    for (name, break_it) in breaks {
+        assert_unsound(name, start(), break_it);
+    }
+}
+
+#[test]
+fn counts_and_security_table() {
+    assert_each_unsound(
+        trading,
+        &[
+            ("no participants", |it| it.market.participants = 0),
+            ("17 participants", |it| it.market.participants = 17),
+            ("no currencies", |it| it.market.currencies = 0),
+            ("5 currencies", |it| it.market.currencies = 5),
+            ("no securities", |it| it.market.securities.clear()),
+            ("unknown currency", |it| {
+                it.market.securities[1].currency = 1
+            }),
+            ("lot 0", |it| it.market.securities[1].lot_size = 0),
+            ("lot 1,001", |it| it.market.securities[1].lot_size = 1_001),
+            ("step 0", |it| it.market.securities[1].price_step = 0),
+            ("step 1,000,001", |it| {
+                it.market.securities[1].price_step = 1_000_001
+            }),
+        ],
+    );
+}
+
+#[test]
+fn waiting_orders() {
+    assert_each_unsound(
+        trading,
+        &[
+            ("too many codes", |it| it.state.codes_given = CODE_LIMIT + 1),
+            ("code above those given", |it| it.state.codes_given = 2),
+            ("code 0", |it| it.state.waiting[0].code = 0),
+            ("equal codes", |it| it.state.waiting[0].code = 3),
+            ("falling codes", |it| it.state.waiting.swap(0, 1)),
+            ("unknown participant", |it| {
+                it.state.waiting[0].participant = 2
+            }),
+            ("unknown security", |it| it.state.waiting[0].security = 2),
+            ("no lots", |it| it.state.waiting[0].lots = 0),
+            ("10,001 lots", |it| it.state.waiting[0].lots = 10_001),
+            ("price off the step", |it| {
+                it.state.waiting[1].kind = WaitingKind::Kept(106)
+            }),
+            ("price 0", |it| {
+                it.state.waiting[1].kind = WaitingKind::Kept(0)
+            }),
+            ("price too high", |it| {
+                it.state.waiting[1].kind = WaitingKind::Kept(1_000_005)
+            }),
+            ("closing order while open", |it| {
+                it.state.waiting[1].kind = WaitingKind::Closing
+            }),
+            ("kept order while closing", |it| {
+                it.state.phase = Phase::Closing
+            }),
+            ("kept order once closed", |it| {
+                it.state.phase = Phase::Closed
+            }),
+        ],
+    );
+}
+
+#[test]
+fn closing_orders() {
+    assert_each_unsound(
+        closing,
+        &[
+            ("closing order where nothing traded", |it| {
+                it.state.waiting[0].security = 1
+            }),
+            ("closing order once closed", |it| {
+                it.state.phase = Phase::Closed
+            }),
+            ("closing order at another closing price", |it| {
+                it.state.traded[0].turnover += it.state.traded[0].pieces
+            }),
+        ],
+    );
+}
+
+#[test]
+fn positions() {
+    assert_each_unsound(
+        trading,
+        &[
+            ("money blocked too much", |it| {
+                it.state.money[0][0].blocked += 1
+            }),
+            ("money blocked too little", |it| {
+                it.state.money[0][0].blocked -= 1
+            }),
+            ("money blocked without an order", |it| {
+                it.state.money[1][0].blocked = 1
+            }),
+            ("pieces blocked too much", |it| {
+                it.state.pieces[1][0].blocked += 1
+            }),
+            ("pieces blocked without an order", |it| {
+                it.state.pieces[0][1].blocked = 1
+            }),
+            ("money over its limit", |it| {
+                it.state.money[1][0].free = MONEY_LIMIT
+            }),
+            ("money near the greatest number", |it| {
+                it.state.money[1][0].free = u64::MAX
+            }),
+            ("pieces over their limit", |it| {
+                it.state.pieces[0][0].free = PIECES_LIMIT
+            }),
+        ],
+    );
+}
+
+#[test]
+fn traded_amounts() {
+    assert_each_unsound(
+        trading,
+        &[
+            ("Q above 10^7 by codes", |it| {
+                it.state.traded[0].pieces = 30_000_001;
+                it.state.traded[0].turnover = 30_000_001;
+            }),
+            ("T below Q", |it| it.state.traded[0].turnover = 99),
+            ("T above 10^6 by Q", |it| {
+                it.state.traded[0].turnover = 100_000_001
+            }),
+            ("T without Q", |it| it.state.traded[1].turnover = 1),
+        ],
+    );
+}
+
+/// Places past the counts may hold anything.
+#[test]
+fn unknown_places_are_not_read() {
+    let mut engine = trading();
+    engine.state.money[2][0].free = u64::MAX;
+    engine.state.money[0][1].blocked = 7;
+    engine.state.pieces[0][2].blocked = 7;
+    engine.state.traded[2].turnover = 7;
+    assert!(engine.is_sound());
+}
+
+#[test]
+fn one_order_too_many() {
+    let mut engine = trading();
+    let calls = vec![entry(0, Side::Buy, 5, 1); 126];
+    run(&mut engine, &calls);
+    assert_unsound("129 orders", engine, |it| {
+        let mut order = it.state.waiting[127];
+        order.code += 1;
+        it.state.codes_given += 1;
+        it.state.money[0][0].blocked += 50;
+        it.state.waiting.push(order);
+    });
+}
+
+#[test]
+fn codes_are_used_up() {
+    let mut engine = trading();
+    engine.state.codes_given = CODE_LIMIT - 1;
+    let order = entry(0, Side::Buy, 100, 1);
+    run(&mut engine, std::slice::from_ref(&order));
+    assert_eq!(engine.codes_given(), CODE_LIMIT);
+    let answer = engine.call(&order, &mut Vec::new());
+    assert_eq!(answer, Err(refused(refusal::CODES_USED_UP)));
+    let unpaid = engine.call(&entry(1, Side::Buy, 1_000_000, 10_000), &mut Vec::new());
+    assert_eq!(unpaid, Err(refused(refusal::CODES_USED_UP)));
+}

@@ -1,0 +1,240 @@
+//! Seeded day files. A shadow engine runs beside the writing, so that exact
+//! amounts, fitting lots and waiting codes can be aimed at.
+
+mod day;
+mod groups;
+mod single;
+mod spoiled;
+
+use day::{Day, LONGEST_CALL};
+
+use crate::calls::{Opening, SecurityLine};
+use crate::damage;
+use crate::engine::{
+    CURRENCY_LIMIT, LOT_SIZE_LIMIT, PARTICIPANT_LIMIT, PRICE_LIMIT, SECURITY_LIMIT,
+};
+use crate::random::Random;
+use crate::reader::TEXT_LIMIT;
+
+const NEVER: usize = usize::MAX;
+
+/// What a day mostly does: its length in bytes, weights of its calls,
+/// percentages, and at which length the closing session starts and ends.
+#[derive(Clone, Copy)]
+struct Plan {
+    length: usize,
+    orders: u64,
+    exact_fills: u64,
+    squeezes: u64,
+    cancels: u64,
+    groups: u64,
+    movements: u64,
+    spoiled: u64,
+    kept_percent: u64,
+    crossing_percent: u64,
+    buy_percent: u64,
+    closing_at: usize,
+    ending_at: usize,
+}
+
+const SENSIBLE: Plan = Plan {
+    length: 2_000,
+    orders: 60,
+    exact_fills: 10,
+    squeezes: 3,
+    cancels: 8,
+    groups: 8,
+    movements: 5,
+    spoiled: 6,
+    kept_percent: 60,
+    crossing_percent: 70,
+    buy_percent: 50,
+    closing_at: NEVER,
+    ending_at: NEVER,
+};
+
+/// The day file of a seed; the seed's remainder decides what kind it is.
+pub fn day_file(seed: u64) -> Vec<u8> {
+    let mut random = Random::new(seed);
+    match seed % 16 {
+        0..=4 => small_day(random),
+        5..=6 => medium_day(random),
+        7 => long_day(random),
+        8 => full_book_day(random),
+        9 => group_day(random),
+        10 => closing_day(random),
+        11 => spoiled_day(random),
+        12 => damage::oddity(&mut random),
+        13 => {
+            let text = medium_day(Random::new(random.number()));
+            damage::damaged(&mut random, text)
+        }
+        _ => {
+            let text = small_day(Random::new(random.number()));
+            damage::damaged(&mut random, text)
+        }
+    }
+}
+
+/// A day of full length, most of whose calls are accepted, for the benchmark.
+pub fn good_long_day(seed: u64) -> Vec<u8> {
+    let plan = Plan {
+        length: TEXT_LIMIT,
+        squeezes: 0,
+        spoiled: 0,
+        kept_percent: 75,
+        closing_at: TEXT_LIMIT * 9 / 10,
+        ending_at: TEXT_LIMIT * 39 / 40,
+        ..SENSIBLE
+    };
+    let mut random = Random::new(seed);
+    let opening = good_opening(&mut random);
+    Day::new(random, plan, opening).write()
+}
+
+fn small_day(mut random: Random) -> Vec<u8> {
+    let plan = Plan {
+        length: random.within(60, 3_000) as usize,
+        ..SENSIBLE
+    };
+    let plan = with_closing(&mut random, plan);
+    let opening = opening(&mut random, 4);
+    Day::new(random, plan, opening).write()
+}
+
+fn medium_day(mut random: Random) -> Vec<u8> {
+    let plan = Plan {
+        length: random.within(3_000, 12_000) as usize,
+        kept_percent: random.within(20, 90),
+        ..SENSIBLE
+    };
+    let plan = with_closing(&mut random, plan);
+    let opening = opening(&mut random, PARTICIPANT_LIMIT as u64);
+    Day::new(random, plan, opening).write()
+}
+
+fn long_day(mut random: Random) -> Vec<u8> {
+    let plan = Plan {
+        length: random.within(30_000, TEXT_LIMIT as u64 + LONGEST_CALL as u64) as usize,
+        kept_percent: random.within(30, 80),
+        ..SENSIBLE
+    };
+    let plan = with_closing(&mut random, plan);
+    let opening = opening(&mut random, PARTICIPANT_LIMIT as u64);
+    Day::new(random, plan, opening).write()
+}
+
+/// Kept orders that rarely cross, so that 128 of them come to wait, at times
+/// nearly all on one side.
+fn full_book_day(mut random: Random) -> Vec<u8> {
+    let plan = Plan {
+        length: random.within(5_000, 20_000) as usize,
+        kept_percent: 95,
+        crossing_percent: random.below(10),
+        buy_percent: random.pick(&[1, 50, 50, 99]),
+        exact_fills: 3,
+        groups: 2,
+        squeezes: 1,
+        ..SENSIBLE
+    };
+    let plan = with_closing(&mut random, plan);
+    let opening = opening(&mut random, 6);
+    Day::new(random, plan, opening).write()
+}
+
+fn group_day(mut random: Random) -> Vec<u8> {
+    let plan = Plan {
+        length: random.within(3_000, 20_000) as usize,
+        orders: 40,
+        groups: 40,
+        kept_percent: 90,
+        crossing_percent: 20,
+        ..SENSIBLE
+    };
+    let plan = with_closing(&mut random, plan);
+    let opening = opening(&mut random, 6);
+    Day::new(random, plan, opening).write()
+}
+
+/// Most of the day is its closing session, long enough to fill the book.
+fn closing_day(mut random: Random) -> Vec<u8> {
+    let length = random.within(1_500, 10_000) as usize;
+    let closing_at = length / 4;
+    let plan = Plan {
+        length,
+        closing_at,
+        ending_at: random.within(closing_at as u64, length as u64) as usize,
+        crossing_percent: 90,
+        ..SENSIBLE
+    };
+    let opening = opening(&mut random, 5);
+    Day::new(random, plan, opening).write()
+}
+
+/// Mostly calls with a number at the edge.
+fn spoiled_day(mut random: Random) -> Vec<u8> {
+    let plan = Plan {
+        length: random.within(500, 8_000) as usize,
+        spoiled: 150,
+        squeezes: 20,
+        movements: 30,
+        ..SENSIBLE
+    };
+    let plan = with_closing(&mut random, plan);
+    let opening = opening(&mut random, PARTICIPANT_LIMIT as u64);
+    Day::new(random, plan, opening).write()
+}
+
+/// Half of the days close; some end at once, some never.
+fn with_closing(random: &mut Random, plan: Plan) -> Plan {
+    if random.chance(50) {
+        return plan;
+    }
+    let length = plan.length as u64;
+    let closing_at = random.within(length / 3, length);
+    Plan {
+        closing_at: closing_at as usize,
+        ending_at: random.within(closing_at, length + length / 8) as usize,
+        ..plan
+    }
+}
+
+fn opening(random: &mut Random, most_participants: u64) -> Opening {
+    let currencies = random.within(1, CURRENCY_LIMIT as u64);
+    let most_securities = if random.chance(80) {
+        3
+    } else {
+        SECURITY_LIMIT as u64
+    };
+    let count = random.within(1, most_securities);
+    Opening {
+        participants: random.within(1, most_participants),
+        currencies,
+        securities: (0..count)
+            .map(|_| security_line(random, currencies))
+            .collect(),
+    }
+}
+
+fn security_line(random: &mut Random, currencies: u64) -> SecurityLine {
+    let any_lot_size = random.within(1, LOT_SIZE_LIMIT);
+    let any_step = random.within(1, PRICE_LIMIT);
+    SecurityLine {
+        currency: random.below(currencies),
+        lot_size: random.pick(&[1, 10, 10, 100, 1_000, any_lot_size]),
+        price_step: random.pick(&[1, 5, 5, 10, 100, 333, 500_000, 1_000_000, any_step]),
+    }
+}
+
+fn good_opening(random: &mut Random) -> Opening {
+    let line = |currency| SecurityLine {
+        currency,
+        lot_size: 10,
+        price_step: 5,
+    };
+    Opening {
+        participants: random.within(4, 16),
+        currencies: 2,
+        securities: vec![line(0), line(1), line(0)],
+    }
+}

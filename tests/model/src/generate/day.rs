@@ -1,0 +1,170 @@
+//! The course of a generated day.
+
+use super::Plan;
+use crate::calls::{Call, Movement, Opening, Phase};
+use crate::engine::{Engine, MONEY_LIMIT, PIECES_LIMIT, PRICE_LIMIT};
+use crate::random::Random;
+use crate::reader::TEXT_LIMIT;
+use crate::write::{write_call, write_heading};
+
+/// Room for the longest call: a group of eight members.
+pub(super) const LONGEST_CALL: usize = 700;
+
+/// A day in writing. Prices stay within a few steps of each security's base.
+pub(super) struct Day {
+    pub(super) random: Random,
+    pub(super) plan: Plan,
+    pub(super) text: Vec<u8>,
+    pub(super) engine: Engine,
+    pub(super) base_steps: Vec<u64>,
+}
+
+impl Day {
+    pub(super) fn new(mut random: Random, plan: Plan, opening: Opening) -> Day {
+        let mut text = Vec::new();
+        write_heading(&opening, &mut text);
+        let base_steps = opening
+            .securities
+            .iter()
+            .map(|line| random.within(1, (PRICE_LIMIT / line.price_step).min(2_000)))
+            .collect();
+        let engine = Engine::open(&opening, false).expect("generated openings are in range");
+        Day {
+            random,
+            plan,
+            text,
+            engine,
+            base_steps,
+        }
+    }
+
+    pub(super) fn write(mut self) -> Vec<u8> {
+        self.write_reserves();
+        while self.has_room() {
+            self.write_next();
+        }
+        self.text
+    }
+
+    fn has_room(&self) -> bool {
+        self.text.len() + LONGEST_CALL.min(self.plan.length / 4) < self.plan.length
+            && self.text.len() + LONGEST_CALL <= TEXT_LIMIT
+    }
+
+    fn write_next(&mut self) {
+        let length = self.text.len();
+        match self.engine.phase() {
+            Phase::Open if length >= self.plan.closing_at => self.add(Call::StartClosing),
+            Phase::Closing if length >= self.plan.ending_at => self.add(Call::EndSession),
+            Phase::Open => self.write_trading(),
+            Phase::Closing => self.write_closing(),
+            Phase::Closed => self.write_closed(),
+        }
+    }
+
+    /// Writes the call and lets the shadow engine follow. A number too long
+    /// for the file is over every limit, so the shadow refuses it as well.
+    pub(super) fn add(&mut self, call: Call) {
+        write_call(&call, &mut self.text);
+        let _ = self.engine.call(&call, &mut Vec::new());
+    }
+
+    fn write_reserves(&mut self) {
+        let participants = self.engine.participants() as u64;
+        for participant in 0..participants {
+            for currency in 0..self.engine.currencies() as u64 {
+                let amount = self.reserve(MONEY_LIMIT / participants);
+                self.write_reserve(Call::MoneyUp, participant, currency, amount);
+            }
+            for security in 0..self.engine.securities().len() as u64 {
+                let amount = self.reserve(PIECES_LIMIT / participants);
+                self.write_reserve(Call::PiecesUp, participant, security, amount);
+            }
+        }
+    }
+
+    fn write_reserve(
+        &mut self,
+        call: fn(Movement) -> Call,
+        participant: u64,
+        asset: u64,
+        amount: u64,
+    ) {
+        if self.has_room() {
+            self.add(call(Movement {
+                participant,
+                asset,
+                amount,
+            }));
+        }
+    }
+
+    /// Mostly a good share; at times the whole share, or hardly anything.
+    fn reserve(&mut self, share: u64) -> u64 {
+        match self.random.below(10) {
+            0 => share,
+            1 => self.random.within(1, 100_000),
+            _ => self.random.within(share / 2, share),
+        }
+    }
+
+    fn write_trading(&mut self) {
+        let plan = self.plan;
+        let weights = [
+            plan.orders,
+            plan.exact_fills,
+            plan.squeezes,
+            plan.cancels,
+            plan.groups,
+            plan.movements,
+            plan.spoiled,
+        ];
+        match self.weighted(&weights) {
+            0 => self.write_order(),
+            1 => self.write_exact_fill(),
+            2 => self.write_squeeze(),
+            3 => self.write_cancel(),
+            4 => self.write_group(),
+            5 => self.write_movement(),
+            _ => self.write_spoiled(),
+        }
+    }
+
+    pub(super) fn weighted(&mut self, weights: &[u64]) -> usize {
+        let mut rest = self.random.below(weights.iter().sum());
+        for (place, &weight) in weights.iter().enumerate() {
+            if rest < weight {
+                return place;
+            }
+            rest -= weight;
+        }
+        weights.len() - 1
+    }
+
+    fn write_closing(&mut self) {
+        match self.weighted(&[70, 8, 8, 3, 2, 5, 1]) {
+            0 => {
+                let entry = self.closing_entry();
+                self.add(Call::EnterClosing(entry));
+            }
+            1 => self.write_cancel(),
+            2 => self.write_movement(),
+            3 => self.write_order(),
+            4 => self.write_group(),
+            5 => self.write_spoiled(),
+            _ => self.add(Call::StartClosing),
+        }
+    }
+
+    fn write_closed(&mut self) {
+        match self.weighted(&[3, 3, 3, 1, 1, 1, 3]) {
+            0 => self.write_order(),
+            1 => self.write_cancel(),
+            2 => self.write_movement(),
+            3 => self.write_group(),
+            4 => self.add(Call::StartClosing),
+            5 => self.add(Call::EndSession),
+            _ => self.write_spoiled(),
+        }
+    }
+}

@@ -1,0 +1,124 @@
+//! Calls with a number at an edge.
+
+use super::day::Day;
+use crate::calls::{Call, Member};
+use crate::engine::{LOTS_LIMIT, PRICE_LIMIT};
+
+/// Numbers at, just below and just above the limits.
+const EDGES: [u64; 32] = [
+    0,
+    1,
+    2,
+    3,
+    4,
+    5,
+    15,
+    16,
+    17,
+    127,
+    128,
+    129,
+    999,
+    1_000,
+    1_001,
+    9_999,
+    10_000,
+    10_001,
+    999_999,
+    1_000_000,
+    1_000_001,
+    10_000_000,
+    999_999_999_999,
+    1_000_000_000_000,
+    1_000_000_000_001,
+    999_999_999_999_999,
+    1_000_000_000_000_000,
+    1_000_000_000_000_001,
+    9_999_999_999_999_999,
+    10_000_000_000_000_000,
+    99_999_999_999_999_999,
+    u64::MAX,
+];
+
+impl Day {
+    pub(super) fn spoil_member(&mut self, member: &mut Member) {
+        match self.random.below(6) {
+            0 => member.lots = self.random.pick(&[0, LOTS_LIMIT, LOTS_LIMIT + 1]),
+            1 => member.price = self.random.pick(&[0, member.price + 1, PRICE_LIMIT + 1]),
+            2 => member.security = self.engine.securities().len() as u64,
+            3 => member.lots = (member.lots * 10).min(LOTS_LIMIT),
+            4 => member.price = self.random.pick(&EDGES),
+            _ => member.lots = self.random.pick(&EDGES),
+        }
+    }
+
+    /// A sensible call with one or more of its numbers spoiled; more than one
+    /// shows in which order the questions are asked.
+    pub(super) fn write_spoiled(&mut self) {
+        let mut call = match self.weighted(&[40, 10, 10, 20, 15, 1, 1]) {
+            0 => Call::Enter(self.entry()),
+            1 => self.cancel(),
+            2 => self.group(),
+            3 => self.movement(),
+            4 => Call::EnterClosing(self.closing_entry()),
+            5 => Call::EndSession,
+            _ => Call::EnterClosing(self.closing_entry()),
+        };
+        let spoiled = self.random.pick(&[1, 1, 1, 2, 2, 3]);
+        for _ in 0..spoiled {
+            self.spoil_number(&mut call);
+        }
+        self.add(call);
+    }
+
+    /// Puts one of the call's numbers at an edge, or one off.
+    fn spoil_number(&mut self, call: &mut Call) {
+        let mut numbers = numbers_of(call);
+        if numbers.is_empty() {
+            return;
+        }
+        let place = self.random.index(numbers.len());
+        let number = *numbers[place];
+        let edge = self.random.pick(&EDGES);
+        let one_off = self
+            .random
+            .pick(&[number.saturating_add(1), number.saturating_sub(1)]);
+        *numbers[place] = self.random.pick(&[edge, edge, one_off]);
+    }
+}
+
+fn numbers_of(call: &mut Call) -> Vec<&mut u64> {
+    match call {
+        Call::MoneyUp(movement)
+        | Call::MoneyDown(movement)
+        | Call::PiecesUp(movement)
+        | Call::PiecesDown(movement) => vec![
+            &mut movement.participant,
+            &mut movement.asset,
+            &mut movement.amount,
+        ],
+        Call::Enter(entry) => vec![
+            &mut entry.participant,
+            &mut entry.security,
+            &mut entry.price,
+            &mut entry.lots,
+        ],
+        Call::EnterClosing(entry) => {
+            vec![&mut entry.participant, &mut entry.security, &mut entry.lots]
+        }
+        Call::Cancel { participant, code } => vec![participant, code],
+        Call::Group {
+            participant,
+            members,
+        } => {
+            let mut numbers = vec![participant];
+            for member in members {
+                numbers.push(&mut member.security);
+                numbers.push(&mut member.price);
+                numbers.push(&mut member.lots);
+            }
+            numbers
+        }
+        Call::StartClosing | Call::EndSession => Vec::new(),
+    }
+}

@@ -1,0 +1,17 @@
+//! Independent model of the trading day, written from the scope paper alone:
+//! the engine, the day file program, the book of demand 3, and generated day
+//! files to compare the model with the proved engine.
+
+pub mod book;
+pub mod calls;
+pub mod cases;
+pub mod check;
+pub mod damage;
+pub mod dayfile;
+pub mod engine;
+pub mod generate;
+pub mod printed;
+pub mod random;
+pub mod reader;
+pub mod tally;
+pub mod write;

@@ -1,0 +1,112 @@
+//! Differential test and benchmark of the proved engine against the model.
+
+use std::env;
+use std::fs;
+use std::io::{self, Read, Write};
+use std::process::ExitCode;
+
+use model::check::checked_output;
+use model::dayfile::output_of;
+use model::generate::day_file;
+use model::tally::Tally;
+
+#[cfg(feature = "engine")]
+mod bench;
+#[cfg(feature = "engine")]
+mod clock;
+#[cfg(feature = "engine")]
+mod compare;
+#[cfg(feature = "engine")]
+mod engine_under_test;
+
+const FIRST_SEED: u64 = 1;
+const SEED_COUNT: u64 = 6_000;
+
+const USAGE: &str = "\
+usage: model compare [first-seed] [count]  engine and model on generated day files
+       model self-check [first-seed] [count]  model and book on generated day files
+       model print [FILE]  the model's output for a day file or standard input
+       model day SEED  the day file of a seed
+       model bench  speed of engine and model";
+
+fn main() -> ExitCode {
+    let arguments: Vec<String> = env::args().skip(1).collect();
+    match run(&arguments) {
+        Ok(()) => ExitCode::SUCCESS,
+        Err(fault) => {
+            eprintln!("{fault}");
+            ExitCode::FAILURE
+        }
+    }
+}
+
+fn run(arguments: &[String]) -> Result<(), String> {
+    let rest = arguments.get(1..).unwrap_or_default();
+    match arguments.first().map(String::as_str) {
+        Some("self-check") => self_check(rest),
+        Some("print") => print(rest),
+        Some("day") => print_day(rest),
+        #[cfg(feature = "engine")]
+        Some("compare") => {
+            let (first_seed, count) = seeds(rest)?;
+            compare::compare(first_seed, count)
+        }
+        #[cfg(feature = "engine")]
+        Some("bench") => bench::bench(),
+        _ => Err(USAGE.into()),
+    }
+}
+
+fn seed(argument: &str) -> Result<u64, String> {
+    argument
+        .parse()
+        .map_err(|_| format!("{argument} is no number\n{USAGE}"))
+}
+
+fn seeds(arguments: &[String]) -> Result<(u64, u64), String> {
+    let number = |place: usize, otherwise: u64| {
+        arguments
+            .get(place)
+            .map_or(Ok(otherwise), |argument| seed(argument))
+    };
+    Ok((number(0, FIRST_SEED)?, number(1, SEED_COUNT)?))
+}
+
+fn self_check(arguments: &[String]) -> Result<(), String> {
+    let (first_seed, count) = seeds(arguments)?;
+    let mut tally = Tally::default();
+    for seed in first_seed..first_seed.saturating_add(count) {
+        checked_output(&day_file(seed), &mut tally)
+            .map_err(|fault| format!("self-check: seed {seed}: {fault}"))?;
+    }
+    let Tally {
+        files, commands, ..
+    } = tally;
+    println!("self-check: {files} day files, {commands} commands, 0 differences\n{tally}");
+    Ok(())
+}
+
+fn print(arguments: &[String]) -> Result<(), String> {
+    let text = match arguments.first() {
+        Some(path) => fs::read(path).map_err(|fault| format!("{path}: {fault}"))?,
+        None => {
+            let mut text = Vec::new();
+            io::stdin()
+                .read_to_end(&mut text)
+                .map_err(|fault| format!("standard input: {fault}"))?;
+            text
+        }
+    };
+    write_out(&output_of(&text))
+}
+
+fn print_day(arguments: &[String]) -> Result<(), String> {
+    let argument = arguments.first().ok_or(USAGE)?;
+    write_out(&day_file(seed(argument)?))
+}
+
+fn write_out(bytes: &[u8]) -> Result<(), String> {
+    io::stdout()
+        .write_all(bytes)
+        .map_err(|fault| format!("standard output: {fault}"))
+}

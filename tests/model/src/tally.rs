@@ -1,0 +1,78 @@
+//! Counts what the day files brought about, to show what a test has reached.
+
+use std::fmt;
+
+use crate::calls::{Answer, Call};
+
+const MOST_REFUSALS: usize = 21;
+
+#[derive(Default)]
+pub struct Tally {
+    pub files: u64,
+    pub commands: u64,
+    pub accepted: u64,
+    pub trades: u64,
+    pub groups_accepted: u64,
+    pub groups_refused: u64,
+    /// Groups refused at a later member, after earlier ones had traded.
+    pub groups_undone: u64,
+    refusals: [u64; MOST_REFUSALS],
+}
+
+impl Tally {
+    pub fn count_group(&mut self, call: &Call, answer: &Answer) {
+        if !matches!(call, Call::Group { .. }) {
+            return;
+        }
+        match answer {
+            Ok(_) => self.groups_accepted += 1,
+            Err(refused) => {
+                self.groups_refused += 1;
+                self.groups_undone += u64::from(refused.place > 1);
+            }
+        }
+    }
+
+    /// Counts a printed day's answers and trades.
+    pub fn count_output(&mut self, output: &[u8]) {
+        self.files += 1;
+        for line in output.split(|&byte| byte == b'\n') {
+            match line.first() {
+                Some(b'A') => self.count_answer(line),
+                Some(b'T') => self.trades += 1,
+                _ => {}
+            }
+        }
+    }
+
+    fn count_answer(&mut self, line: &[u8]) {
+        self.commands += 1;
+        let refusal = line.split(|&byte| byte == b',').nth(2);
+        let number = refusal.and_then(crate::reader::number).unwrap_or(0) as usize;
+        match self.refusals.get_mut(number) {
+            Some(count) if number > 0 => *count += 1,
+            _ => self.accepted += 1,
+        }
+    }
+}
+
+impl fmt::Display for Tally {
+    fn fmt(&self, out: &mut fmt::Formatter) -> fmt::Result {
+        let Tally {
+            accepted, trades, ..
+        } = self;
+        writeln!(out, "  accepted {accepted}, trades {trades}")?;
+        writeln!(
+            out,
+            "  groups accepted {}, refused {} ({} after earlier members had traded)",
+            self.groups_accepted, self.groups_refused, self.groups_undone
+        )?;
+        write!(out, "  refusals (number: count)")?;
+        for (number, count) in self.refusals.iter().enumerate().skip(1) {
+            if *count > 0 {
+                write!(out, " {number}: {count}")?;
+            }
+        }
+        Ok(())
+    }
+}

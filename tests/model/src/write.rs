@@ -1,0 +1,105 @@
+//! Writes the heading and calls as lines of a day file.
+
+use crate::calls::{Call, ClosingEntry, Entry, EntryKind, Member, Movement, Opening, Side};
+
+pub fn write_heading(opening: &Opening, text: &mut Vec<u8>) {
+    let Opening {
+        participants,
+        currencies,
+        securities,
+    } = opening;
+    let count = securities.len();
+    line(text, &format!("H,{participants},{currencies},{count}"));
+    for security in securities {
+        let numbers = (security.currency, security.lot_size, security.price_step);
+        line(
+            text,
+            &format!("S,{},{},{}", numbers.0, numbers.1, numbers.2),
+        );
+    }
+}
+
+pub fn write_call(call: &Call, text: &mut Vec<u8>) {
+    match call {
+        Call::MoneyUp(movement) => write_movement('R', movement, text),
+        Call::MoneyDown(movement) => write_movement('W', movement, text),
+        Call::PiecesUp(movement) => write_movement('D', movement, text),
+        Call::PiecesDown(movement) => write_movement('E', movement, text),
+        Call::Enter(entry) => write_entry(entry, text),
+        Call::Cancel { participant, code } => line(text, &format!("X,{participant},{code}")),
+        Call::Group {
+            participant,
+            members,
+        } => write_group(*participant, members, text),
+        Call::StartClosing => line(text, "C"),
+        Call::EnterClosing(entry) => write_closing_entry(entry, text),
+        Call::EndSession => line(text, "Z"),
+    }
+}
+
+pub fn line(text: &mut Vec<u8>, written: &str) {
+    text.extend_from_slice(written.as_bytes());
+    text.push(b'\n');
+}
+
+fn side_letter(side: Side) -> char {
+    match side {
+        Side::Buy => 'B',
+        Side::Sell => 'L',
+    }
+}
+
+fn write_movement(letter: char, movement: &Movement, text: &mut Vec<u8>) {
+    let Movement {
+        participant,
+        asset,
+        amount,
+    } = movement;
+    line(text, &format!("{letter},{participant},{asset},{amount}"));
+}
+
+fn write_entry(entry: &Entry, text: &mut Vec<u8>) {
+    let Entry {
+        participant,
+        side,
+        security,
+        price,
+        lots,
+        kind,
+    } = entry;
+    let side = side_letter(*side);
+    let kind = match kind {
+        EntryKind::Kept => 'K',
+        EntryKind::Immediate => 'I',
+        EntryKind::FillOrKill => 'A',
+    };
+    line(
+        text,
+        &format!("{side},{participant},{security},{price},{lots},{kind}"),
+    );
+}
+
+fn write_closing_entry(entry: &ClosingEntry, text: &mut Vec<u8>) {
+    let ClosingEntry {
+        participant,
+        side,
+        security,
+        lots,
+    } = entry;
+    let side = side_letter(*side);
+    line(text, &format!("P,{participant},{side},{security},{lots}"));
+}
+
+fn write_group(participant: u64, members: &[Member], text: &mut Vec<u8>) {
+    line(text, &format!("G,{participant},{}", members.len()));
+    for member in members {
+        let Member {
+            side,
+            security,
+            price,
+            lots,
+        } = member;
+        let side = side_letter(*side);
+        line(text, &format!("M,{side},{security},{price},{lots}"));
+    }
+}
