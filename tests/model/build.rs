@@ -13,7 +13,7 @@ fn main() {
     println!("cargo:rustc-link-search=native={}", folder.display());
     println!(
         "cargo:rerun-if-changed={}",
-        folder.join("libhost.a").display()
+        folder.join("libexports.a").display()
     );
 }
 

@@ -4,7 +4,7 @@ use std::fmt;
 
 const OUTPUT_LIMIT: usize = 4 << 20;
 
-#[link(name = "host", kind = "static")]
+#[link(name = "exports", kind = "static")]
 extern "C" {
     fn run_day(text: *const u8, text_length: usize, output: *mut u8, output_length: usize)
         -> usize;
