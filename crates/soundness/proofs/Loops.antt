@@ -1,5 +1,5 @@
 -- Laws of loops: a test of every number below a bound or of every waiting order, and a sum.
-use Prim.Native.Nat.{ℕ, zero, suc, _+_, _*_, _/_, _%_, _≤_, _<_}
+use Prim.Native.Nat.{ℕ, zero, suc, _+_, _≤_, _<_}
 use native.Mathlib.Omega.{arith}
 use native.Mathlib.Numerals.{add-one}
 use mathlib.Core.Path.{_≡_, ap, refl, subst, sym, _∙_}
@@ -8,15 +8,16 @@ use mathlib.Core.Bool.{Bool, true, false}
 use lib.ListN.{length, drop, drop-of-length-le}
 use lib.Seq.{drop-cons}
 use lib.Dec.{eqb}
-use borrow.Author.Tests.{eqb-true, eqb-false, lt-leb}
+use borrow.Author.Tests.{eqb-true, eqb-false, le-leb, le-ltb, lt-leb, lt-ltb}
 use Rattle.market.specs.declared.Order.{Order}
 use Rattle.market.specs.declared.Position.{Position}
-use Rattle.market.specs.Limits.{columns}
 use Rattle.market.specs.Tests.{_and_, _≤?_, allBelow, allOf, sumBelow}
 use Rattle.market.specs.Day.{firstOrders, noOrder, orderAt, place, position}
+use Rattle.market.specs.Codes.{rising}
 use Rattle.market.specs.Positions.{total, totalAt}
-use Rattle.market.proofs.Logic.{below-all, below-intro, never}
+use Rattle.market.proofs.Logic.{below-all, below-intro, both, never}
 use Rattle.market.proofs.View.{first-length}
+use Rattle.soundness.specs.Parts.{blockedAt, columnSound}
 
 pub refuted : (a : Bool) → (a ≡ true → ⊥) → false ≡ a
 refuted true h = absurd (h refl)
@@ -25,6 +26,11 @@ refuted false h = refl
 pub same : (a b : Bool) → (a ≡ true → b ≡ true) → (b ≡ true → a ≡ true) → a ≡ b
 same true b f g = sym (f refl)
 same false b f g = refuted b (λ e. never (g e))
+
+pub and-none : (a : Bool) → a and false ≡ false
+unfolding _and_
+and-none true = refl
+and-none false = refl
 
 -- what holds below i, and at i, holds below i + 1
 one-more : (P : ℕ → Type 0) (i : ℕ) → ((j : ℕ) → j < i → P j) → P i → (j : ℕ) → j < i + 1 → P j
@@ -51,39 +57,8 @@ module _ (f : ℕ → Bool) (n i : ℕ) (p : Passed f n i) where
   pub passed-fails : i < n → f i ≡ false → false ≡ allBelow n f
   passed-fails h e = refuted (allBelow n f) (λ a. never (sym e ∙ below-all n f a i h))
 
-pub below-same : (f g : ℕ → Bool) (n : ℕ) → ((i : ℕ) → i < n → f i ≡ g i) → allBelow n f ≡ allBelow n g
-below-same f g n h =
-    same (allBelow n f) (allBelow n g)
-    (λ a. below-intro n g (λ i k. sym (h i k) ∙ below-all n f a i k))
-    (λ a. below-intro n f (λ i k. h i k ∙ below-all n g a i k))
-
--- a loop over the places of n participants that tests those in the first w columns
-abbrev pub Placed : (ℕ → Bool) → ℕ → ℕ → ℕ → Type 0
-Placed f n w i = (i ≤ n * columns) × ((j : ℕ) → j < i → j % columns < w → f j ≡ true)
-
-pub placed-none : (f : ℕ → Bool) (n w : ℕ) → Placed f n w 0
-placed-none f n w = (omega arith, λ j h. absurd (omega arith))
-
-module _ (f : ℕ → Bool) (n w i : ℕ) (p : Placed f n w i) where
-  pub placed-next : i < n * columns → (i % columns < w → f i ≡ true) → Placed f n w (i + 1)
-  placed-next h e = (omega arith, one-more (λ j. j % columns < w → f j ≡ true) i (p .1) e)
-
-  pub placed-all : w ≤ columns → n * columns ≤ i → true ≡ allBelow n (λ p. allBelow w (λ c. f (place p c)))
-  placed-all hw h =
-      sym (below-intro n (λ p. allBelow w (λ c. f (place p c))) (λ q hq. below-intro w (λ c. f (place q c))
-      (λ c hc. p .1 (place q c) (omega arith) (omega arith))))
-
-  pub placed-fails : i < n * columns → i % columns < w → f i ≡ false
-      → false ≡ allBelow n (λ p. allBelow w (λ c. f (place p c)))
-  placed-fails h hw e =
-      refuted (allBelow n (λ p. allBelow w (λ c. f (place p c)))) (λ a.
-      let row = below-all n (λ p. allBelow w (λ c. f (place p c))) a (i / columns) (omega arith) in
-      let at = below-all w (λ c. f (place (i / columns) c)) row (i % columns) hw in
-      let here : place (i / columns) (i % columns) ≡ i = omega arith in
-      never (sym e ∙ subst (λ (j : ℕ). f j ≡ true) here at))
-
 -- the waiting orders from place i on
-pub first-at : (n : ℕ) (l : List Order) (i : ℕ) → i < n → orderAt (firstOrders n l) i ≡ orderAt l i
+first-at : (n : ℕ) (l : List Order) (i : ℕ) → i < n → orderAt (firstOrders n l) i ≡ orderAt l i
 first-at zero l i h = absurd (omega arith)
 first-at (suc n) [] zero h = refl
 first-at (suc n) [] (suc i) h = first-at n [] i (omega arith)
@@ -118,6 +93,23 @@ module _ (f : Order → Bool) (n : ℕ) (l : List Order) (i : ℕ) (r : Rest f n
   pub rest-done : n ≤ i → true ≡ allOf f (firstOrders n l)
   rest-done h = rw (r .1, waiting-end n l i h)
 
+-- a loop over the codes of the waiting orders: from place i on they have yet to rise, above the last one
+pub record Rises (codes n : ℕ) (l : List Order) (last i : ℕ) : Type 0 where
+  pub rest : rising 0 codes (firstOrders n l) ≡ rising last codes (drop i (firstOrders n l))
+
+module _ (codes n : ℕ) (l : List Order) (last i : ℕ) (r : Rises codes n l last i) where
+  pub rises-fails : i < n → (orderAt l i) .code ≤ last → rising 0 codes (firstOrders n l) ≡ false
+  unfolding rising _and_
+  rises-fails h e = rw (r .rest, waiting-at n l i h, le-ltb _ _ e)
+
+  pub rises-next : i < n → last < (orderAt l i) .code → Rises codes n l ((orderAt l i) .code) (i + 1)
+  unfolding rising _and_
+  rises-next h e = record { rest = r .rest ∙ rw (waiting-at n l i h, lt-ltb _ _ e) }
+
+  pub rises-done : n ≤ i → rising 0 codes (firstOrders n l) ≡ last ≤? codes
+  unfolding rising
+  rises-done h = rw (r .rest, waiting-end n l i h)
+
 -- a column's total, added up participant by participant
 sum-at-most : (f : ℕ → ℕ) (n i : ℕ) → i < n → f i + sumBelow i f ≤ sumBelow n f
 sum-at-most f zero i h = absurd (omega arith)
@@ -129,14 +121,89 @@ sum-at-most f (suc n) i h = go (sum-at-most f n i) (eqb i n) refl
     go again false q = omega (arith, again (omega (arith, eqb-false i n q)))
 
 module _ (l : List Position) (column p at sum : ℕ) (here : at ≡ place p column) (e : sum ≡ totalAt p l column) where
-  pub total-next : sum + (position l at) .free + (position l at) .blocked ≡ totalAt (p + 1) l column
+  total-next : sum + (position l at) .free + (position l at) .blocked ≡ totalAt (p + 1) l column
   total-next =
       let same = ap (λ (j : ℕ). total (position l j)) here in
       rw add-one (omega (arith, same))
 
-  pub total-fails : (n limit : ℕ) → p < n → limit < sum + (position l at) .free + (position l at) .blocked
+  total-fails : (n limit : ℕ) → p < n → limit < sum + (position l at) .free + (position l at) .blocked
       → false ≡ totalAt n l column ≤? limit
   total-fails n limit h over =
       let same = ap (λ (j : ℕ). total (position l j)) here in
       let most = sum-at-most (λ q. total (position l (place q column))) n p h in
       sym (lt-leb (totalAt n l column) limit (omega arith))
+
+-- a loop over the columns, and in each over the participants: the columns before this one are sound, and of this one
+-- what is blocked is right, and added up with what is free, before participant p
+pub record Counted (n w limit first : ℕ) (l : List Position) (needs : List ℕ) (sum p column : ℕ) : Type 0 where
+  pub columns : Passed (columnSound n limit first l needs) w column
+  pub blocked : Passed (λ q. blockedAt first l needs (place q column)) n p
+  pub inside : p < n
+  pub most : sum ≤ limit
+  pub exact : sum ≡ totalAt p l column
+
+pub counted-none : (n w limit first : ℕ) (l : List Position) (needs : List ℕ) → 0 < n
+    → Counted n w limit first l needs 0 0 0
+counted-none n w limit first l needs h = record {
+  columns = passed-none _ _;
+  blocked = passed-none _ _;
+  inside = h;
+  most = omega arith;
+  exact = refl;
+}
+
+pub counted-all : (n w limit first : ℕ) (l : List Position) (needs : List ℕ) (sum p column : ℕ)
+    → Counted n w limit first l needs sum p column → w ≤ column
+    → true ≡ allBelow w (columnSound n limit first l needs)
+counted-all n w limit first l needs sum p column k h = passed-all _ w column (k .columns) h
+
+module _ (n w limit first : ℕ) (l : List Position) (needs : List ℕ) (sum p column : ℕ)
+    (k : Counted n w limit first l needs sum p column) (h : column < w) (at : ℕ) (here : at ≡ place p column) where
+  test-here : (z : Bool) → blockedAt first l needs at ≡ z → blockedAt first l needs (place p column) ≡ z
+  test-here z e = subst (λ (j : ℕ). blockedAt first l needs j ≡ z) here e
+
+  pub blocked-fails : blockedAt first l needs at ≡ false → false ≡ allBelow w (columnSound n limit first l needs)
+  unfolding columnSound _and_
+  blocked-fails e =
+      let none = passed-fails (λ q. blockedAt first l needs (place q column)) n p (k .blocked) (k .inside)
+      (test-here false e) in
+      passed-fails (columnSound n limit first l needs) w column (k .columns) h (rw (sym none))
+
+  pub limit-fails : limit < sum + (position l at) .free + (position l at) .blocked
+      → false ≡ allBelow w (columnSound n limit first l needs)
+  unfolding columnSound
+  limit-fails over =
+      let none = total-fails l column p at sum here (k .exact) n limit (k .inside) over in
+      passed-fails (columnSound n limit first l needs) w column (k .columns) h (rw (sym none) (and-none _))
+
+  module _ (e : blockedAt first l needs at ≡ true)
+      (most : sum + (position l at) .free + (position l at) .blocked ≤ limit) where
+    passed-here : Passed (λ q. blockedAt first l needs (place q column)) n (p + 1)
+    passed-here = passed-next _ n p (k .blocked) (k .inside) (test-here true e)
+
+    pub counted-next : p + 1 < n
+        → Counted n w limit first l needs (sum + (position l at) .free + (position l at) .blocked) (p + 1) column
+    counted-next inside = record {
+      columns = k .columns;
+      blocked = passed-here;
+      inside = inside;
+      most = most;
+      exact = total-next l column p at sum here (k .exact);
+    }
+
+    column-sound : n ≤ p + 1 → columnSound n limit first l needs column ≡ true
+    unfolding columnSound
+    column-sound last =
+        let all : p + 1 ≡ n = omega (arith, k .inside) in
+        let sums = total-next l column p at sum here (k .exact) in
+        let same = ap (λ (q : ℕ). totalAt q l column) all in
+        both (sym (passed-all _ n (p + 1) passed-here last)) (le-leb (totalAt n l column) limit (omega arith))
+
+    pub column-next : n ≤ p + 1 → Counted n w limit first l needs 0 0 (column + 1)
+    column-next last = record {
+      columns = passed-next _ w column (k .columns) h (column-sound last);
+      blocked = passed-none _ _;
+      inside = omega (arith, k .inside);
+      most = omega arith;
+      exact = refl;
+    }

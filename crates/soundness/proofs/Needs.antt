@@ -3,7 +3,7 @@ use Prim.Native.Nat.{ℕ, _+_, _*_, _≤_, _<_}
 use native.Mathlib.Omega.{arith}
 use native.Mathlib.Nat.{le-trans, mul-le-mul}
 use mathlib.Core.Path.{_≡_, refl, ap, sym, _∙_}
-use mathlib.Core.List.{List}
+use mathlib.Core.List.{List, [], _∷_}
 use mathlib.Core.Bool.{Bool, true, false, cond}
 use lib.Dec.{eqb, lit≤}
 use lib.ListN.{length, getD, set, drop, replicate, length-set}
@@ -13,18 +13,21 @@ use Rattle.market.specs.declared.Order.{Order}
 use Rattle.market.specs.declared.Security.{Security}
 use Rattle.market.specs.declared.Side.{Side}
 use Rattle.market.specs.declared.Side.the-variants.{Buy, Sell}
+use Rattle.market.specs.declared.State.{State}
 use Rattle.market.specs.declared.Turnover.{Turnover}
 use Rattle.market.specs.Limits.{columns, maxLot, maxLots, maxPieces, maxPrice, places}
 use Rattle.market.specs.Tests.{_=?_, allBelow, sumOf}
-use Rattle.market.specs.Day.{Asset, Day, Money, Pieces, Rules, columnsOf, currencyOf, firstOrders, line, orderAt, place}
-use Rattle.market.specs.Day.{position, positions}
-use Rattle.market.specs.Sound.{blockedSound}
+use Rattle.market.specs.Day.{Asset, Day, Money, Pieces, Rules, columnsOf, currencyOf, firstOrders, ifMoney, line}
+use Rattle.market.specs.Day.{noSecurity, orderAt, place, position, positions, totalLimit, view}
+use Rattle.market.specs.Sound.{blockedSound, needsAt, orderSound, totalsSound}
 use Rattle.market.specs.Needs.{blocks, columnOf, limitOf, need, needAt, ofAsset, only, piecesOf, sumFor}
 use Rattle.market.proofs.Amounts.{only-same}
 use Rattle.market.proofs.Lists.{same-all}
-use Rattle.soundness.specs.Parts.{HoldsNeeds, needPlace, needPlaceFor}
-use Rattle.soundness.proofs.Loops.{below-same, waiting-at, waiting-end}
-use Rattle.soundness.proofs.Parts.{Reckonable}
+use Rattle.market.proofs.Logic.{and-true, below-all, below-intro, both}
+use Rattle.soundness.specs.Parts.{Checked, HoldsNeeds, assetSound, blockedAt, columnSound, needPlace}
+use Rattle.soundness.specs.Parts.{needPlaceFor, waitingSound}
+use Rattle.soundness.proofs.Loops.{same, waiting-at, waiting-end}
+use Rattle.soundness.proofs.Parts.{Reckonable, ordersOf}
 
 -- an order needs at most this: 10^6 for each of 10^7 pieces
 abbrev pub maxNeed : ℕ
@@ -101,14 +104,14 @@ pub record Added (r : Rules) (t : List Turnover) (n : ℕ) (w : List Order) (i :
       → getD l (needPlace x j) 0 + sumOf (needAt x r t j) (drop i (firstOrders n w))
       ≡ sumOf (needAt x r t j) (firstOrders n w)
 
-pub added-none : (r : Rules) (t : List Turnover) (n : ℕ) (w : List Order)
-    → Added r t n w 0 (replicate (places + places) 0)
-added-none r t n w = record {
+pub added-none : (r : Rules) (t : List Turnover) (n : ℕ) (w : List Order) (l : List ℕ)
+    → l ≡ replicate (places + places) 0 → Added r t n w 0 l
+added-none r t n w l e = rw e (record {
   within = omega arith;
   size = refl;
   small = λ k. omega (arith, same-all {A = ℕ} (places + places) k 0);
   exact = λ x j h. omega (arith, same-all {A = ℕ} (places + places) (needPlace x j) 0);
-}
+})
 
 module _ (r : Rules) (t : List Turnover) (n : ℕ) (w : List Order) (i : ℕ) (l : List ℕ) (a : Added r t n w i l) where
   pub added-next : (at v : ℕ) → i < n → Reckonable r t (orderAt w i)
@@ -137,12 +140,61 @@ module _ (r : Rules) (t : List Turnover) (n : ℕ) (w : List Order) (i : ℕ) (l
       → getD l (needPlace x j) 0 ≡ sumOf (needAt x r t j) (firstOrders n w)
   added-all h x j hj = let b = a .exact x j hj in omega (arith, rw (waiting-end n w i h) at b)
 
--- what is blocked is tested against the list
-pub blocked-same : (x : Asset) (d : Day) (l : List ℕ) → HoldsNeeds d l → d .rules .participants ≤ columns
+-- what is blocked is tested against the list, column by column
+pub columns-same : (x : Asset) (d : Day) (l : List ℕ) → HoldsNeeds d l → d .rules .participants ≤ columns
     → columnsOf x (d .rules) ≤ columns
-    → allBelow (d .rules .participants) (λ p. allBelow (columnsOf x (d .rules))
-    (λ c. (position (positions x d) (place p c)) .blocked =? getD l (needPlace x (place p c)) 0)) ≡ blockedSound x d
-unfolding blockedSound
-blocked-same x d l h hp hc =
-    below-same _ _ (d .rules .participants) (λ p i. below-same _ _ (columnsOf x (d .rules))
-    (λ c j. ap (λ (a : ℕ). (position (positions x d) (place p c)) .blocked =? a) (h x (place p c) (omega arith))))
+    → allBelow (columnsOf x (d .rules)) (columnSound (d .rules .participants) (totalLimit x) (ifMoney x 0 places)
+    (positions x d) l) ≡ assetSound x d
+unfolding assetSound blockedSound totalsSound columnSound
+columns-same x d l h hp hc = same _ _ there back
+  where
+    n : ℕ
+    n = d .rules .participants
+
+    w : ℕ
+    w = columnsOf x (d .rules)
+
+    needed : (p c : ℕ) → p < n → c < w → blockedAt (ifMoney x 0 places) (positions x d) l (place p c)
+        ≡ (position (positions x d) (place p c)) .blocked =? needsAt x d (place p c)
+    needed p c i j = ap (λ (a : ℕ). (position (positions x d) (place p c)) .blocked =? a) (h x (place p c) (omega arith))
+
+    there : allBelow w (columnSound n (totalLimit x) (ifMoney x 0 places) (positions x d) l) ≡ true → assetSound x d ≡ true
+    there e =
+        both
+        (below-intro n _ (λ p i. below-intro w _
+        (λ c j. sym (needed p c i j) ∙ below-all n _ ((and-true (below-all w _ e c j)) .0) p i)))
+        (below-intro w _ (λ c j. (and-true (below-all w _ e c j)) .1))
+
+    back : assetSound x d ≡ true → allBelow w (columnSound n (totalLimit x) (ifMoney x 0 places) (positions x d) l) ≡ true
+    back e =
+        let a = and-true e in
+        below-intro w _ (λ c j. both
+        (below-intro n _ (λ p i. needed p c i j ∙ below-all w _ (below-all n _ (a .0) p i) c j))
+        (below-all w _ (a .1) c j))
+
+-- what an order needs is read from its line, and not from how many currencies there are
+column-same : (side : Side) (r q : Rules) (s : ℕ) → line r s ≡ line q s → columnOf side r s ≡ columnOf side q s
+column-same Buy r q s e = ap (λ (l : Security). l .currency) e
+column-same Sell r q s e = refl
+
+need-same : (x : Asset) (r q : Rules) (t : List Turnover) (j : ℕ) (o : Order) → r .table ≡ q .table
+    → needAt x r t j o ≡ needAt x q t j o
+unfolding needAt
+need-same x r q t j o e =
+    let same : line r (o .security) ≡ line q (o .security) = ap (λ (l : List Security). getD l (o .security) noSecurity) e in
+    rw (column-same (o .side) r q (o .security) same, same)
+
+needs-same : (x : Asset) (r q : Rules) (t : List Turnover) (j : ℕ) (w : List Order) → r .table ≡ q .table
+    → sumOf (needAt x r t j) w ≡ sumOf (needAt x q t j) w
+needs-same x r q t j [] e = refl
+needs-same x r q t j (o ∷ w) e = rw (need-same x r q t j o e, needs-same x r q t j w e)
+
+-- what was asked of the orders is known of the day
+pub orders-checked : (s : State) (answer : Bool) (needs : List ℕ) → Checked (ordersOf s) answer needs
+    → Checked (view s) answer needs
+unfolding waitingSound orderSound
+orders-checked s answer needs k = record {
+  right = k .right;
+  added = λ e x j h. k .added e x j h
+      ∙ needs-same x ((ordersOf s) .rules) ((view s) .rules) (s .turnover) j ((view s) .waiting) refl;
+}

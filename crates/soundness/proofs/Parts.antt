@@ -2,7 +2,7 @@
 use Prim.Native.Nat.{ℕ, _≤_, _<_}
 use native.Mathlib.Omega.{arith}
 use native.Mathlib.Nat.{div-le-of-le-mul}
-use mathlib.Core.Path.{_≡_, refl, subst}
+use mathlib.Core.Path.{_≡_, refl, sym}
 use mathlib.Core.List.{List}
 use mathlib.Core.Bool.{Bool, true, false}
 use lib.ListN.{length}
@@ -12,42 +12,41 @@ use Rattle.market.specs.declared.Kind.the-variants as kind
 use Rattle.market.specs.declared.Order.{Order}
 use Rattle.market.specs.declared.Security.{Security}
 use Rattle.market.specs.declared.Phase.{Phase}
+use Rattle.market.specs.declared.State.{State}
 use Rattle.market.specs.declared.Turnover.{Turnover}
-use Rattle.market.specs.Limits.{columns, maxLot, maxLots, maxPrice, maxSecurities, maxStep, maxWaiting}
+use Rattle.market.specs.Limits.{columns, maxCurrencies, maxLot, maxLots, maxParticipants, maxPrice, maxSecurities}
+use Rattle.market.specs.Limits.{maxStep, maxWaiting}
 use Rattle.market.specs.Tests.{_and_, allOf, known}
-use Rattle.market.specs.Day.{Day, Rules, currencyOf, firstOrders, line, noOrder, orderAt, turnoverAt}
-use Rattle.market.specs.Codes.{given, numbered}
+use Rattle.market.specs.Day.{Day, Money, Pieces, Rules, currencyOf, line, turnoverAt, view}
+use Rattle.market.specs.Codes.{given, numbered, rising}
 use Rattle.market.specs.Needs.{closingPrice, limitOf, priceOr}
 use Rattle.market.specs.Sound.{countsSound, kindSound, lineSound, lotsSound, orderSound, priceSound, rulesSound}
 use Rattle.market.specs.Sound.{sound, turnoverSound}
-use Rattle.market.proofs.Logic.{and-true, below-all, both, within-high, within-low}
-use Rattle.market.proofs.Lists.{all-at, test-all}
-use Rattle.market.proofs.View.{first-length}
+use Rattle.market.proofs.Logic.{and-true, below-all, below-intro, both, never, within-high, within-low}
 use Rattle.market.proofs.Known.{RulesOk, rules-ok}
 use Rattle.market.proofs.Turnovers.{turnover-ok}
-use Rattle.soundness.specs.Parts.{covered, orderly}
-use Rattle.soundness.proofs.Loops.{first-at, same}
+use Rattle.soundness.specs.Parts.{Checked, HoldsNeeds, assetSound, orderly, ordersDay, waitingSound}
+use Rattle.soundness.proofs.Loops.{and-none, same}
 
 pub record Orderly (d : Day) : Type 0 where
   pub count : length (d .waiting) ≤ maxWaiting
+  pub participants : 0 < d .rules .participants
   pub rules : RulesOk (d .rules)
   pub turnovers : (s : ℕ) → s < d .rules .securities → turnoverSound (given d) (turnoverAt (d .turnover) s) ≡ true
-  pub orders : allOf (orderSound d) (d .waiting) ≡ true
 
 pub orderly-holds : (d : Day) → orderly d ≡ true → Orderly d
-unfolding orderly rulesSound
+unfolding orderly rulesSound countsSound
 orderly-holds d e =
     let a = and-true e in
     let counts = and-true (a .1) in
     let table = and-true (counts .1) in
     let codes = and-true (table .1) in
-    let turnovers = and-true (codes .1) in
     record {
       count = leb-true (length (d .waiting)) maxWaiting (a .0);
+      participants = within-low 1 maxParticipants (d .rules .participants) ((and-true (counts .0)) .0);
       rules = rules-ok (d .rules) (both (counts .0) (table .0));
       turnovers = below-all (d .rules .securities) (λ s. turnoverSound (given d) (turnoverAt (d .turnover) s))
-          (turnovers .0);
-      orders = (and-true (turnovers .1)) .1;
+          (codes .1);
     }
 
 pub few-securities : (participants currencies securities : ℕ) → countsSound participants currencies securities ≡ true
@@ -57,11 +56,11 @@ few-securities participants currencies securities e =
     within-high 1 maxSecurities securities ((and-true ((and-true e) .1)) .1)
 
 -- the parts of "sound" in the order of the code
-pub two-parts : (d : Day) → sound d ≡ orderly d and covered d
-unfolding sound orderly covered rulesSound numbered
-two-parts d = same _ _ there back
+pub parts : (d : Day) → sound d ≡ orderly d and waitingSound d and assetSound Money d and assetSound Pieces d
+unfolding sound orderly waitingSound assetSound rulesSound numbered
+parts d = same _ _ there back
   where
-    there : sound d ≡ true → orderly d and covered d ≡ true
+    there : sound d ≡ true → orderly d and waitingSound d and assetSound Money d and assetSound Pieces d ≡ true
     there e =
         let rules = and-true e in
         let r = and-true (rules .0) in
@@ -73,30 +72,65 @@ two-parts d = same _ _ there back
         let pieces = and-true (money .1) in
         let t = and-true (pieces .1) in
         let u = and-true (t .1) in
-        both (both (count .0) (both (r .0) (both (r .1) (both (n .0) (both (u .1) (both (n .1) (orders .0)))))))
-        (both (money .0) (both (pieces .0) (both (t .0) (u .0))))
+        both (both (count .0) (both (r .0) (both (r .1) (both (n .0) (u .1)))))
+        (both (both (orders .0) (n .1)) (both (both (money .0) (t .0)) (both (pieces .0) (u .0))))
 
-    back : orderly d and covered d ≡ true → sound d ≡ true
+    back : orderly d and waitingSound d and assetSound Money d and assetSound Pieces d ≡ true → sound d ≡ true
     back e =
-        let parts = and-true e in
-        let count = and-true (parts .0) in
+        let all = and-true e in
+        let count = and-true (all .0) in
         let counts = and-true (count .1) in
         let table = and-true (counts .1) in
         let codes = and-true (table .1) in
-        let turnovers = and-true (codes .1) in
-        let rises = and-true (turnovers .1) in
-        let money = and-true (parts .1) in
-        let pieces = and-true (money .1) in
-        let t = and-true (pieces .1) in
-        both (both (counts .0) (table .0)) (both (both (codes .0) (rises .0)) (both (count .0) (both (rises .1)
-        (both (money .0) (both (pieces .0) (both (t .0) (both (t .1) (turnovers .0))))))))
+        let rest = and-true (all .1) in
+        let orders = and-true (rest .0) in
+        let assets = and-true (rest .1) in
+        let money = and-true (assets .0) in
+        let pieces = and-true (assets .1) in
+        both (both (counts .0) (table .0)) (both (both (codes .0) (orders .1)) (both (count .0) (both (orders .0)
+        (both (money .0) (both (pieces .0) (both (money .1) (both (pieces .1) (codes .1))))))))
+
+-- the test of the waiting orders, where one of its two parts fails and where none does
+module _ (d : Day) (needs : List ℕ) where
+  pub order-fails : false ≡ allOf (orderSound d) (d .waiting) → Checked d false needs
+  unfolding waitingSound _and_
+  order-fails e = record { right = rw (sym e); added = λ t. never t }
+
+  pub code-fails : rising 0 (given d) (d .waiting) ≡ false → Checked d false needs
+  unfolding waitingSound
+  code-fails e = record { right = rw e (sym (and-none (allOf (orderSound d) (d .waiting)))); added = λ t. never t }
+
+  pub orders-hold : {answer : Bool} → true ≡ allOf (orderSound d) (d .waiting)
+      → rising 0 (given d) (d .waiting) ≡ answer → HoldsNeeds d needs → Checked d answer needs
+  unfolding waitingSound _and_
+  orders-hold e r h = record { right = rw (sym e) (sym r); added = λ t. h }
+
+-- where a day is orderly, so it is as far as its orders are asked about
+line-wide : (currencies : ℕ) (l : Security) → currencies ≤ maxCurrencies → lineSound currencies l ≡ true
+    → lineSound maxCurrencies l ≡ true
+unfolding lineSound
+line-wide currencies l h e =
+    let a = and-true e in
+    both (lt-ltb (l .currency) maxCurrencies (omega (arith, ltb-true (l .currency) currencies (a .0)))) (a .1)
+
+abbrev pub ordersOf : State → Day
+ordersOf s =
+    ordersDay (s .participants) (s .securities) (s .codes) (s .phase) (s .count) (s .table) (s .turnover) (s .orders)
+
+pub orders-orderly : (s : State) → orderly (view s) ≡ true → orderly (ordersOf s) ≡ true
+unfolding orderly countsSound
+orders-orderly s e =
+    let y = orderly-holds (view s) e in
+    let a = and-true e in
+    let counts = and-true (a .1) in
+    let table = and-true (counts .1) in
+    let n = and-true (counts .0) in
+    both (a .0) (both (both (n .0) (both (both refl refl) ((and-true (n .1)) .1)))
+    (both (below-intro (s .securities) _ (λ i h. line-wide (s .currencies) (line ((view s) .rules) i) (y .rules .currencies)
+    (below-all (s .securities) (λ j. lineSound (s .currencies) (line ((view s) .rules) j)) (table .0) i h)))
+    (table .1)))
 
 -- an order of an unknown security, and what is left to ask of one that is known
-and-none : (a : Bool) → a and false ≡ false
-unfolding _and_
-and-none true = refl
-and-none false = refl
-
 pub unknown-security : (d : Day) (o : Order) → d .rules .securities ≤ o .security → orderSound d o ≡ false
 unfolding orderSound _and_
 unknown-security d o h = rw (le-ltb _ _ h) (and-none (known (o .participant) (d .rules .participants)))
@@ -113,15 +147,6 @@ unfolding rulesSound lineSound
 line-step r s e h =
     let a = below-all (r .securities) (λ s. lineSound (r .currencies) (line r s)) ((and-true e) .1) s h in
     within-low 1 maxStep ((line r s) .step) ((and-true ((and-true a) .1)) .1)
-
--- the test of each waiting order, from the test of all
-pub each-waiting : (f : Order → Bool) (n : ℕ) (l : List Order) (i : ℕ) → allOf f (firstOrders n l) ≡ true → i < n
-    → f (orderAt l i) ≡ true
-each-waiting f n l i e h =
-    let size = first-length n l in
-    let a = test-all (λ o. f o ≡ true) f (firstOrders n l) (λ o t. t) e in
-    subst (λ (o : Order). f o ≡ true) (first-at n l i h)
-    (all-at (λ o. f o ≡ true) noOrder (firstOrders n l) i a (omega arith))
 
 -- a waiting order whose need can be reckoned
 pub record Reckonable (r : Rules) (t : List Turnover) (o : Order) : Type 0 where

@@ -1,18 +1,24 @@
--- "Sound means" in the two parts that the code asks for in turn, and the places where it adds needs up.
+-- "Sound means" in the parts that the code asks for in turn, and the places where it adds needs up.
 use Prim.Native.Nat.{ℕ, _+_, _<_}
-use mathlib.Core.List.{List}
+use mathlib.Core.List.{List, []}
 use mathlib.Core.Path.{_≡_}
-use mathlib.Core.Bool.{Bool}
+use mathlib.Core.Bool.{Bool, true}
 use lib.ListN.{getD, length}
+use Rattle.market.specs.declared.Order.{Order}
+use Rattle.market.specs.declared.Phase.{Phase}
+use Rattle.market.specs.declared.Position.{Position}
+use Rattle.market.specs.declared.Security.{Security}
 use Rattle.market.specs.declared.Side.{Side}
 use Rattle.market.specs.declared.Side.the-variants.{Buy, Sell}
-use Rattle.market.specs.Limits.{maxWaiting, places}
-use Rattle.market.specs.Tests.{_and_, _≤?_, allBelow, allOf}
-use Rattle.market.specs.Day.{Asset, Day, Money, Pieces, ifMoney, line, place, turnoverAt}
+use Rattle.market.specs.declared.Turnover.{Turnover}
+use Rattle.market.specs.Limits.{maxCurrencies, maxWaiting, places}
+use Rattle.market.specs.Tests.{_=?_, _and_, _≤?_, allBelow, allOf}
+use Rattle.market.specs.Day.{Asset, Day, Money, Pieces, firstOrders, ifMoney, line, place, position, turnoverAt}
 use Rattle.market.specs.Codes.{codesSound, given, rising}
+use Rattle.market.specs.Positions.{totalAt}
 use Rattle.market.specs.Sound.{blockedSound, countsSound, lineSound, needsAt, orderSound, totalsSound, turnoverSound}
 
--- counts, table, codes, Q and T, and waiting orders: each part is asked where the ones before it hold
+-- counts, table, codes, Q and T: each part is asked where the ones before it hold
 unfoldable pub orderly : Day → Bool
 orderly d =
     length (d .waiting) ≤? maxWaiting
@@ -20,12 +26,23 @@ orderly d =
     and allBelow (d .rules .securities) (λ s. lineSound (d .rules .currencies) (line (d .rules) s))
     and codesSound d
     and allBelow (d .rules .securities) (λ s. turnoverSound (given d) (turnoverAt (d .turnover) s))
-    and rising 0 (given d) (d .waiting)
-    and allOf (orderSound d) (d .waiting)
 
--- the positions of an orderly day
-unfoldable pub covered : Day → Bool
-covered d = blockedSound Money d and blockedSound Pieces d and totalsSound Money d and totalsSound Pieces d
+-- the waiting orders of an orderly day
+unfoldable pub waitingSound : Day → Bool
+waitingSound d = allOf (orderSound d) (d .waiting) and rising 0 (given d) (d .waiting)
+
+-- the positions in an asset
+unfoldable pub assetSound : Asset → Day → Bool
+assetSound x d = blockedSound x d and totalsSound x d
+
+-- at place j what is blocked is what is needed; needs stand from place `first` of their list on
+abbrev pub blockedAt : ℕ → List Position → List ℕ → ℕ → Bool
+blockedAt first l needs j = (position l j) .blocked =? getD needs (first + j) 0
+
+-- one column of positions: what is blocked, and the total
+unfoldable pub columnSound : ℕ → ℕ → ℕ → List Position → List ℕ → ℕ → Bool
+columnSound participants limit first l needs c =
+    allBelow participants (λ p. blockedAt first l needs (place p c)) and totalAt participants l c ≤? limit
 
 -- needs stand in one list: money at its place, pieces 256 places further on
 abbrev pub needPlace : Asset → ℕ → ℕ
@@ -39,3 +56,25 @@ needPlaceFor Sell participant currency security = needPlace Pieces (place partic
 -- the list holds what the waiting orders need of each asset at each place
 abbrev pub HoldsNeeds : Day → List ℕ → Type 0
 HoldsNeeds d l = (x : Asset) (j : ℕ) → j < places → getD l (needPlace x j) 0 ≡ needsAt x d j
+
+-- the day as far as its orders are asked about: neither its positions count, nor how many of the currencies it has
+abbrev pub ordersDay : ℕ → ℕ → ℕ → Phase → ℕ → List Security → List Turnover → List Order → Day
+ordersDay participants securities codes phase count table turnover orders = record {
+  rules = record {
+    participants = participants;
+    currencies = maxCurrencies;
+    securities = securities;
+    table = table;
+  };
+  money = [];
+  pieces = [];
+  waiting = firstOrders count orders;
+  codes = codes;
+  phase = phase;
+  turnover = turnover;
+}
+
+-- the answer is whether the waiting orders are sound; where they are, the list holds what they need
+pub record Checked (d : Day) (answer : Bool) (needs : List ℕ) : Type 0 where
+  pub right : answer ≡ waitingSound d
+  pub added : answer ≡ true → HoldsNeeds d needs

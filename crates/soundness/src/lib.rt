@@ -1,5 +1,4 @@
 // Is a state sound? Asked of any values at all, before anything is reckoned from them.
-use amounts::COLUMNS;
 use amounts::need_of;
 use amounts::place_of;
 use amounts::price_sound;
@@ -29,16 +28,12 @@ use market::is_open;
 ghost use mathlib.Core.Path.{_≡_};
 ghost use mathlib.Core.Bool.{true};
 ghost use Prim.Native.Nat.{_+_, _<_, _≤_};
-ghost use lib.ListN.{getD};
-ghost use Rattle.market.specs.Limits.{columns as allColumns, maxCodes, maxParticipants, maxSecurities};
-ghost use Rattle.market.specs.Limits.{maxWaiting, places};
-ghost use Rattle.market.specs.Tests.{_=?_, _and_, _≤?_, allBelow, allOf, known};
-ghost use Rattle.market.specs.Day.{firstOrders, noSecurity, place, position, turnoverAt, view};
-ghost use Rattle.market.specs.Codes.{rising as isRising};
-ghost use Rattle.market.specs.Positions.{totalAt};
-ghost use Rattle.market.specs.Sound.{countsSound, kindSound, lineSound, lotsSound, orderSound};
-ghost use Rattle.market.specs.Sound.{rulesSound, sound, turnoverSound};
-ghost use Rattle.soundness.specs.Parts.{HoldsNeeds, covered, needPlaceFor, orderly};
+ghost use lib.ListN.{getD, replicate};
+ghost use Rattle.market.specs.Limits.{columns as allColumns, maxCodes, maxParticipants, maxSecurities, places};
+ghost use Rattle.market.specs.Tests.{_and_, allBelow, known};
+ghost use Rattle.market.specs.Day.{noSecurity, turnoverAt, view};
+ghost use Rattle.market.specs.Sound.{countsSound, kindSound, lineSound, lotsSound, sound, turnoverSound};
+ghost use Rattle.soundness.specs.Parts.{Checked, columnSound, needPlaceFor, orderly, ordersDay};
 
 // Needs of pieces stand this many places behind those of money.
 const PLACES: usize = 256;
@@ -112,24 +107,6 @@ fn turnovers_sound(codes: u64, securities: u64, turnovers: [Turnover; 16]) -> bo
     true
 }
 
-// Do the waiting orders' codes rise from 1, up to the codes given at most?
-fn rising(codes: u64, count: usize, orders: [Order; 128]) -> bool
-    requires { ⌜ count ≤ maxWaiting ⌝ }
-    ensures { λ r. ⌜ r ≡ isRising 0 codes (firstOrders count orders) ⌝ }
-{
-    let mut last: u64 = 0;
-    let mut i: usize = 0;
-    while i < count {
-        let order = orders[i];
-        if order.code <= last {
-            return false;
-        }
-        last = order.code;
-        i += 1;
-    }
-    last <= codes
-}
-
 // May an order of this kind wait in this phase, at its price, in a security so traded?
 fn kind_sound(phase: Phase, line: Security, turnover: Turnover, kind: Kind) -> bool
     requires { ⌜ 0 < line .step ⌝ }
@@ -173,29 +150,6 @@ fn order_sound(
     kind_sound(phase, line, turnover, kind)
 }
 
-fn orders_sound(s: State) -> bool
-    requires { ⌜ (rulesSound ((view s) .rules) ≡ true) × (s .count ≤ maxWaiting) ⌝ }
-    ensures { λ r. ⌜ r ≡ allOf (orderSound (view s)) ((view s) .waiting) ⌝ }
-{
-    let count = s.count;
-    let phase = s.phase;
-    let mut i: usize = 0;
-    while i < count {
-        let order = s.orders[i];
-        if s.securities <= order.security {
-            return false;
-        }
-        let security = order.security as usize;
-        let line = s.table[security];
-        let turnover = s.turnover[security];
-        if !order_sound(s.participants, phase, line, turnover, order) {
-            return false;
-        }
-        i += 1;
-    }
-    true
-}
-
 // Where an order's need is added: a buy's money, or a sell's pieces.
 fn need_place(side: Side, participant: u64, currency: u64, security: u64) -> usize
     requires { ⌜ (participant < allColumns) × (currency < allColumns) × (security < allColumns) ⌝ }
@@ -207,64 +161,69 @@ fn need_place(side: Side, participant: u64, currency: u64, security: u64) -> usi
     }
 }
 
-// What the waiting orders need, of each asset at each place, in one pass over them.
-fn needs_by_place(s: State) -> [u64; 512]
-    requires { ⌜ orderly (view s) ≡ true ⌝ }
-    ensures { λ r. ⌜ HoldsNeeds (view s) r ⌝ }
+// Is each waiting order sound, and do their codes rise from 1, up to the codes given at most? What each needs is added at
+// its place in the same pass, so that the orders are copied and read once.
+fn orders_sound(
+    participants: u64,
+    securities: u64,
+    codes: u64,
+    phase: Phase,
+    count: usize,
+    table: [Security; 16],
+    turnovers: [Turnover; 16],
+    orders: [Order; 128],
+    needs: &mut [u64; 512],
+) -> bool
+    requires { ⌜ (orderly (ordersDay participants securities codes phase count table turnovers orders) ≡ true) × (now needs ≡ replicate (places + places) 0) ⌝ }
+    ensures { λ r. ⌜ Checked (ordersDay participants securities codes phase count table turnovers orders) r (now (needs .exit)) ⌝ }
 {
-    let count = s.count;
-    let mut needs = [0u64; 512];
+    let mut last: u64 = 0;
     let mut i: usize = 0;
     while i < count {
-        let order = s.orders[i];
+        let order = orders[i];
+        if order.code <= last {
+            return false;
+        }
+        if securities <= order.security {
+            return false;
+        }
         let security = order.security as usize;
-        let line = s.table[security];
-        let turnover = s.turnover[security];
+        let line = table[security];
+        let turnover = turnovers[security];
+        if !order_sound(participants, phase, line, turnover, order) {
+            return false;
+        }
         let side = order.side;
         let at = need_place(side, order.participant, line.currency, order.security);
         needs[at] = needs[at] + need_of(line, turnover, order);
+        last = order.code;
         i += 1;
     }
-    needs
+    last <= codes
 }
 
-// Is what is blocked equal to what is needed? The needs of this asset stand from `first` on.
-fn blocked_sound(
+// Is what is blocked in each column what is needed, and the column's total within the limit? No sum is made above it.
+// Column by column in one loop: an array handed to a function for each column would be copied each time.
+fn positions_sound(
     participants: u64,
     columns: u64,
+    limit: u64,
     first: usize,
     positions: [Position; 256],
-    needs: [u64; 512],
+    needs: &[u64; 512],
 ) -> bool
-    requires { ⌜ (participants ≤ maxParticipants) × (columns ≤ allColumns) × (first ≤ places) ⌝ }
-    ensures { λ r. ⌜ r ≡ allBelow participants (λ p. allBelow columns (λ c.
-        (position positions (place p c)) .blocked =? getD needs (first + place p c) 0)) ⌝ }
-{
-    let end = participants * COLUMNS;
-    let mut j: u64 = 0;
-    while j < end {
-        if j % COLUMNS < columns {
-            let at = j as usize;
-            let position = positions[at];
-            if position.blocked != needs[first + at] {
-                return false;
-            }
-        }
-        j += 1;
-    }
-    true
-}
-
-// Is a column's total over all participants within the limit? No sum is made above it.
-fn total_sound(participants: u64, column: u64, limit: u64, positions: [Position; 256]) -> bool
-    requires { ⌜ (participants ≤ maxParticipants) × (column < allColumns) ⌝ }
-    ensures { λ r. ⌜ r ≡ totalAt participants positions column ≤? limit ⌝ }
+    requires { ⌜ (0 < participants) × (participants ≤ maxParticipants) × (columns ≤ allColumns) × (first ≤ places) ⌝ }
+    ensures { λ r. ⌜ r ≡ allBelow columns (columnSound participants limit first positions (now (needs .entry))) ⌝ }
 {
     let mut total: u64 = 0;
     let mut p: u64 = 0;
-    while p < participants {
+    let mut column: u64 = 0;
+    while column < columns {
         let at = place_of(p, column);
         let position = positions[at];
+        if position.blocked != needs[first + at] {
+            return false;
+        }
         if limit - total < position.free {
             return false;
         }
@@ -273,33 +232,24 @@ fn total_sound(participants: u64, column: u64, limit: u64, positions: [Position;
         }
         total = total + position.free + position.blocked;
         p += 1;
-    }
-    true
-}
-
-fn totals_sound(participants: u64, columns: u64, limit: u64, positions: [Position; 256]) -> bool
-    requires { ⌜ (participants ≤ maxParticipants) × (columns ≤ allColumns) ⌝ }
-    ensures { λ r. ⌜ r ≡ allBelow columns (λ c. totalAt participants positions c ≤? limit) ⌝ }
-{
-    let mut column: u64 = 0;
-    while column < columns {
-        if !total_sound(participants, column, limit, positions) {
-            return false;
+        if p < participants {
+            continue;
         }
+        p = 0;
+        total = 0;
         column += 1;
     }
     true
 }
 
-// All but the positions. Each part is asked only where the ones before it hold, which bound what it reckons.
+// All but the waiting orders and the positions. Each part is asked only where the ones before it hold, which bound what
+// it reckons.
 fn is_orderly(s: State) -> bool
     ensures { λ r. ⌜ r ≡ orderly (view s) ⌝ }
 {
-    let count = s.count;
     let table = s.table;
     let turnovers = s.turnover;
-    let orders = s.orders;
-    if MAX_WAITING < count as u64 {
+    if MAX_WAITING < s.count as u64 {
         return false;
     }
     if !counts_sound(s.participants, s.currencies, s.securities) {
@@ -311,40 +261,44 @@ fn is_orderly(s: State) -> bool
     if MAX_CODES < s.codes {
         return false;
     }
-    if !turnovers_sound(s.codes, s.securities, turnovers) {
-        return false;
-    }
-    if !rising(s.codes, count, orders) {
-        return false;
-    }
-    orders_sound(s)
-}
-
-// Positions of an orderly state.
-fn is_covered(s: State) -> bool
-    requires { ⌜ orderly (view s) ≡ true ⌝ }
-    ensures { λ r. ⌜ r ≡ covered (view s) ⌝ }
-{
-    let money = s.money;
-    let pieces = s.pieces;
-    let needs = needs_by_place(s);
-    if !blocked_sound(s.participants, s.currencies, 0, money, needs) {
-        return false;
-    }
-    if !blocked_sound(s.participants, s.securities, PLACES, pieces, needs) {
-        return false;
-    }
-    if !totals_sound(s.participants, s.currencies, MONEY_LIMIT, money) {
-        return false;
-    }
-    totals_sound(s.participants, s.securities, PIECES_LIMIT, pieces)
+    turnovers_sound(s.codes, s.securities, turnovers)
 }
 
 pub fn is_sound(s: State) -> bool
     ensures { λ r. ⌜ r ≡ sound (view s) ⌝ }
 {
+    let phase = s.phase;
+    let table = s.table;
+    let turnovers = s.turnover;
+    let orders = s.orders;
+    let money = s.money;
+    let pieces = s.pieces;
+    let mut needs = [0u64; 512];
     if !is_orderly(s) {
         return false;
     }
-    is_covered(s)
+    if !orders_sound(
+        s.participants,
+        s.securities,
+        s.codes,
+        phase,
+        s.count,
+        table,
+        turnovers,
+        orders,
+        &mut needs,
+    ) {
+        return false;
+    }
+    if !positions_sound(s.participants, s.currencies, MONEY_LIMIT, 0, money, &needs) {
+        return false;
+    }
+    positions_sound(
+        s.participants,
+        s.securities,
+        PIECES_LIMIT,
+        PLACES,
+        pieces,
+        &needs,
+    )
 }
