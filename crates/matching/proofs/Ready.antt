@@ -13,7 +13,7 @@ use Rattle.market.specs.declared.Side.the-variants.{Buy, Sell}
 use Rattle.market.specs.declared.Turnover.{Turnover}
 use Rattle.market.specs.Limits.{maxCodes, maxPrice, moneyLimit}
 use Rattle.market.specs.Day.{Asset, Day, Money, Pieces, Rules, currencyOf, line, noOrder, orderAt, place, position}
-use Rattle.market.specs.Day.{withLots}
+use Rattle.market.specs.Day.{turnoverAt, withLots}
 use Rattle.market.specs.Needs.{assetOf, columnOf, limitOf, need, needAt, piecesOf, sumFor}
 use Rattle.market.specs.Positions.{fall, total, totalAt}
 use Rattle.market.specs.Matching.{buyOf, found, ifBuy, lotsAt, opposite, reaches, sellOf, traded}
@@ -182,7 +182,7 @@ module _ {d : Day} {e : Order} (f : InFlight d e) (i p n : ℕ) (some : 0 < e .l
 
   -- Q + pieces ≤ 10^7 × codes and T ≤ 10^6 × Q, with at most 10^6 codes
   abbrev Counts : ℕ → Type 0
-  Counts s = Countable (d .turnover) s (piecesOf (line (d .rules) s) n) (sumFor (line (d .rules) s) p n)
+  Counts s = Countable (turnoverAt (d .turnover) s) (piecesOf (line (d .rules) s) n) (sumFor (line (d .rules) s) p n)
 
   own : Counts (e .security)
   own =
@@ -194,7 +194,6 @@ module _ {d : Day} {e : Order} (f : InFlight d e) (i p n : ℕ) (some : 0 < e .l
       let sum = sum-bounds l p n (range .0) (range .1) in
       let codes = leb-true (d .codes) maxCodes (m .limit) in
       record {
-        known = omega (arith, m .security, m .agree .rulesOk .securities);
         roomQ = omega (arith, t .top);
         roomT = omega (arith, t .top, t .high, sum .1);
       }

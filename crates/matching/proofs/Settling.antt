@@ -1,5 +1,6 @@
 -- One trade on the day: amounts stay within the limit, and the parts that code reckons make up the definition's day.
 use Prim.Native.Nat.{ℕ, zero, suc, _≤_}
+use native.Mathlib.Omega.{arith}
 use mathlib.Core.Path.{_≡_, ap, sym, _∙_}
 use mathlib.Core.List.{List, [], _∷_}
 use lib.ListN.{set}
@@ -7,23 +8,46 @@ use Rattle.market.specs.declared.Order.{Order}
 use Rattle.market.specs.declared.Position.{Position}
 use Rattle.market.specs.declared.State.{State}
 use Rattle.market.specs.declared.Turnover.{Turnover}
+use Rattle.market.specs.Limits.{moneyLimit}
 use Rattle.market.specs.Day.{Day, currencyOf, line, place, position, view, withMoney, withPieces, withTurnover}
-use Rattle.market.specs.Day.{withWaiting}
+use Rattle.market.specs.Day.{turnoverAt, withWaiting}
 use Rattle.market.specs.Needs.{piecesOf, placeFor, sumFor}
-use Rattle.market.specs.Positions.{change, counted, fall, moneySettled, pay, piecesSettled, receive, settle}
+use Rattle.market.specs.Positions.{change, counted, counting, fall, moneySettled, pay, piecesSettled}
+use Rattle.market.specs.Positions.{receive, settle}
 use Rattle.market.specs.Waiting.{takeOff}
 use Rattle.market.specs.Matching.{buyOf, priceOf, sellOf, traded}
 use Rattle.market.proofs.Needs.{fall-sells}
+use Rattle.matching.specs.Payable.{Payable}
 use Rattle.matching.specs.Trading.{Settles, Tradable, TradeDone, TradeReady, waitingAt}
 use Rattle.matching.specs.Written.{tradeIn, tradeWritten}
 
-pub free-within : (l : List Position) (i j : ℕ) (p : Position) (limit : ℕ) → (position l j) .free ≤ limit
+free-within : (l : List Position) (i j : ℕ) (p : Position) (limit : ℕ) → (position l j) .free ≤ limit
     → p .free ≤ limit → (position (set l i p) j) .free ≤ limit
 free-within [] i j p limit h q = h
 free-within (x ∷ l) zero zero p limit h q = q
 free-within (x ∷ l) zero (suc j) p limit h q = h
 free-within (x ∷ l) (suc i) zero p limit h q = h
 free-within (x ∷ l) (suc i) (suc j) p limit h q = free-within l i j p limit h q
+
+-- one side of a trade: the definition's places and amounts, and the same as code has them
+module _ (l : List Position) {i i′ fall fall′ cost cost′ j j′ : ℕ} (payer : i ≡ i′) (falls : fall ≡ fall′)
+    (costs : cost ≡ cost′) (receiver : j ≡ j′) where
+  pub payable-as : Payable l i′ fall′ cost′ j′ → Payable l i fall cost j
+  payable-as h = rw (payer, falls, costs, receiver) h
+
+  pub handed-over : {p q : Position} → p ≡ pay fall cost (position l i) → q ≡ receive cost (position (set l i p) j)
+      → set (set l i p) j q ≡ change (change l i′ (pay fall′ cost′)) j′ (receive cost′)
+  unfolding change
+  handed-over paid received = rw (received, paid, payer, falls, costs, receiver)
+
+-- once the payer's position is paid the receiver's free amount has room, also where he is the payer
+pub receivable : {l : List Position} {i fall cost j : ℕ} → Payable l i fall cost j → {p : Position}
+    → p ≡ pay fall cost (position l i) → ((position (set l i p) j) .free ≤ moneyLimit) × (cost ≤ moneyLimit)
+receivable {l} {i} {fall} {cost} {j} h {p} paid =
+    let less : p .free ≤ moneyLimit = rw paid (omega (arith, h .payerTotal, h .covered)) in (
+      free-within l i j p moneyLimit (omega (arith, h .receiverTotal)) less,
+      omega (arith, h .pays, h .covered, h .payerTotal),
+    )
 
 -- money and pieces after the trade
 pub day-settled : (d : Day) (b s : Order) (p n : ℕ) → Settles d b s p n → (m k : List Position) →
@@ -57,12 +81,20 @@ day-settled d b s p n h m k em ek =
     (place (b .participant) (b .security)) (receive pieces)) falls in
     rw (paid, delivered)
 
--- and with Q, T and the waiting orders
-pub day-traded : (d : Day) (b s : Order) (i p n : ℕ) (q : Day) (t : List Turnover) (w : List Order)
-    → q ≡ settle d b s p n → t ≡ counted (d .rules) (d .turnover) (b .security) p n → w ≡ takeOff (d .waiting) i n
-    → withWaiting (withTurnover q t) w ≡ traded d b s i p n
-unfolding traded
-day-traded d b s i p n q t w eq et ew = rw (eq, et, ew)
+-- and with Q, T and the waiting orders, which that day still has
+module _ (d : Day) (b s : Order) (p n : ℕ) {q : Day} (settled : q ≡ settle d b s p n) where
+  pub same-waiting : q .waiting ≡ d .waiting
+  unfolding settle
+  same-waiting = ap (λ (x : Day). x .waiting) settled
+
+  pub day-traded : (i : ℕ) {t : Turnover}
+      → t
+      ≡ counting (piecesOf (line (d .rules) (b .security)) n) (sumFor (line (d .rules) (b .security)) p n)
+      (turnoverAt (d .turnover) (b .security))
+      → withWaiting (withTurnover q (set (q .turnover) (b .security) t)) (takeOff (q .waiting) i n)
+      ≡ traded d b s i p n
+  unfolding traded settle counted
+  day-traded i new = rw (settled, new)
 
 -- the entry's trade with the order at place i: b is its buy, a its sell, p its price
 module _ {s : State} {e : Order} {i n k : ℕ} {l : List ℕ} (ready : TradeReady s e i n k l) {b a : Order} {p : ℕ}

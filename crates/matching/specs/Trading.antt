@@ -9,7 +9,7 @@ use Rattle.market.specs.declared.Side.the-variants.{Buy, Sell}
 use Rattle.market.specs.declared.State.{State}
 use Rattle.market.specs.declared.Turnover.{Turnover}
 use Rattle.market.specs.Limits.{columns, maxLot, maxLots, maxPrice, maxWaiting, numbersPerTrade}
-use Rattle.market.specs.Day.{Day, currencyOf, line, orderAt, place, view, withLots}
+use Rattle.market.specs.Day.{Day, currencyOf, line, orderAt, place, turnoverAt, view, withLots}
 use Rattle.market.specs.Needs.{blocks, closingPrice, limitOf, piecesOf, priceOr, sumFor}
 use Rattle.market.specs.Positions.{fall}
 use Rattle.market.specs.TradeList.{tradeOf}
@@ -59,7 +59,7 @@ pub record Tradable (d : Day) (b s : Order) (i p n : ℕ) : Type 0 where
   pub settles : Settles d b s p n
   pub waits : i < length (d .waiting)
   pub room : length (d .waiting) ≤ maxWaiting
-  pub counts : Countable (d .turnover) (b .security) (piecesOf (line (d .rules) (b .security)) n)
+  pub counts : Countable (turnoverAt (d .turnover) (b .security)) (piecesOf (line (d .rules) (b .security)) n)
       (sumFor (line (d .rules) (b .security)) p n)
 
 -- the order that waits at place i

@@ -12,12 +12,13 @@ use market::State;
 use market::Turnover;
 ghost use mathlib.Core.Path.{_≡_};
 ghost use Prim.Native.Nat.{_+_, _*_, _-_, _≤_, _<_, min};
-ghost use lib.ListN.{length, set};
+ghost use lib.ListN.{length};
 ghost use Rattle.market.specs.Limits.{maxLot, maxLots, maxPrice, maxWaiting, moneyLimit, numbersPerTrade};
 ghost use Rattle.market.specs.Tests.{removeAt};
-ghost use Rattle.market.specs.Day.{firstOrders, turnoverAt, view, withLots};
+ghost use Rattle.market.specs.Day.{firstOrders, view, withLots, withWaiting};
 ghost use Rattle.market.specs.Needs.{priceOr};
-ghost use Rattle.market.specs.Positions.{change, counting, pay, receive, settle as daySettled, total};
+ghost use Rattle.market.specs.Positions.{counting, pay, receive, settle as daySettled, total};
+ghost use Rattle.market.specs.Waiting.{takeOff};
 ghost use Rattle.market.specs.Matching.{better as isBetter, fits as doesFit, fitting, fittingLots, ifBuy};
 ghost use Rattle.market.specs.Matching.{opposite as areOpposite, reaches as doesReach, traded as dayTraded};
 ghost use Rattle.matching.specs.Search.{bestOf, preferLater};
@@ -168,15 +169,15 @@ pub fn taken_off(orders: [Order; 128], count: usize, at: usize, lots: u64) -> Or
     requires { ⌜ (at < count) × (count ≤ maxWaiting) ⌝ }
     ensures { λ r. ⌜ TakenOff orders count at lots r ⌝ }
 {
-    let mut next = orders;
-    let o = next[at];
+    let o = orders[at];
     if o.lots <= lots {
-        let others = removed(next, count, at);
+        let others = removed(orders, count, at);
         return Orders {
             orders: others,
             count: count - 1,
         };
     }
+    let mut next = orders;
     next[at] = with_lots(o, o.lots - lots);
     Orders {
         orders: next,
@@ -195,40 +196,26 @@ fn paid(p: Position, fall: u64, cost: u64) -> Position
     }
 }
 
-// One side of a trade: what the payer's blocked amount pays becomes the receiver's free amount.
-fn settled(
-    positions: [Position; 256],
-    payer: usize,
-    fall: u64,
-    cost: u64,
-    receiver: usize,
-) -> [Position; 256]
-    requires { ⌜ Payable positions payer fall cost receiver ⌝ }
-    ensures { λ r. ⌜ r ≡ change (change positions payer (pay fall cost)) receiver (receive cost) ⌝ }
+// What a payer's blocked amount pays becomes the receiver's free amount.
+fn received(p: Position, cost: u64) -> Position
+    requires { ⌜ (p .free ≤ moneyLimit) × (cost ≤ moneyLimit) ⌝ }
+    ensures { λ r. ⌜ r ≡ receive cost p ⌝ }
 {
-    let mut next = positions;
-    let p = next[payer];
-    next[payer] = paid(p, fall, cost);
-    let q = next[receiver];
-    next[receiver] = Position {
-        free: q.free + cost,
-        blocked: q.blocked,
-    };
-    next
+    Position {
+        free: p.free + cost,
+        blocked: p.blocked,
+    }
 }
 
 // Each trade adds to Q and T.
-fn counted(turnover: [Turnover; 16], security: usize, pieces: u64, sum: u64) -> [Turnover; 16]
-    requires { ⌜ Countable turnover security pieces sum ⌝ }
-    ensures { λ r. ⌜ r ≡ set turnover security (counting pieces sum (turnoverAt turnover security)) ⌝ }
+fn counted(old: Turnover, pieces: u64, sum: u64) -> Turnover
+    requires { ⌜ Countable old pieces sum ⌝ }
+    ensures { λ r. ⌜ r ≡ counting pieces sum old ⌝ }
 {
-    let mut next = turnover;
-    let old = next[security];
-    next[security] = Turnover {
+    Turnover {
         pieces: old.pieces + pieces,
         money: old.money + sum,
-    };
-    next
+    }
 }
 
 fn lots_fitting(e: Order, o: Order) -> u64
@@ -242,12 +229,11 @@ pub fn fitting_lots(s: State, e: Order) -> u64
     requires { ⌜ FewLots (s .count) ((view s) .waiting) ⌝ }
     ensures { λ r. ⌜ r ≡ fitting e ((view s) .waiting) ⌝ }
 {
-    let orders = s.orders;
     let count = s.count;
     let mut sum: u64 = 0;
     let mut i: usize = 0;
     while i < count {
-        let o = orders[i];
+        let o = s.orders[i];
         sum += lots_fitting(e, o);
         i += 1;
     }
@@ -269,10 +255,8 @@ pub fn settle(s: State, buy: Order, sell: Order, price: u64, lots: u64) -> State
     ensures { λ r. ⌜ view r ≡ daySettled (view s) buy sell price lots ⌝ }
 {
     let security = buy.security as usize;
-    let table = s.table;
-    let line = table[security];
-    let turnovers = s.turnover;
-    let turnover = turnovers[security];
+    let line = s.table[security];
+    let turnover = s.turnover[security];
     let fall = fall_of(line, turnover, buy, lots);
     let sum = sum_for(line, price, lots);
     let pieces = pieces_of(line, lots);
@@ -280,14 +264,39 @@ pub fn settle(s: State, buy: Order, sell: Order, price: u64, lots: u64) -> State
     let payee = place_of(sell.participant, line.currency);
     let holder = place_of(sell.participant, buy.security);
     let taker = place_of(buy.participant, buy.security);
-    let money = s.money;
-    let new_money = settled(money, payer, fall, sum, payee);
-    // The seller's need falls by the pieces that he sells.
-    let held = s.pieces;
-    let new_pieces = settled(held, holder, pieces, pieces, taker);
     let mut next = s;
-    next.money = new_money;
-    next.pieces = new_pieces;
+    let buyer_money = next.money[payer];
+    next.money[payer] = paid(buyer_money, fall, sum);
+    // Each is read after the store before it: a participant may trade with himself.
+    let seller_money = next.money[payee];
+    next.money[payee] = received(seller_money, sum);
+    // The seller's need falls by the pieces that he sells.
+    let seller_pieces = next.pieces[holder];
+    next.pieces[holder] = paid(seller_pieces, pieces, pieces);
+    let buyer_pieces = next.pieces[taker];
+    next.pieces[taker] = received(buyer_pieces, pieces);
+    next
+}
+
+// Lots come off the waiting order at `at`; a filled order gives its place up.
+fn lots_off(s: State, at: usize, lots: u64) -> State
+    requires { ⌜ (at < s .count) × (s .count ≤ maxWaiting) ⌝ }
+    ensures { λ r. ⌜ view r ≡ withWaiting (view s) (takeOff ((view s) .waiting) at lots) ⌝ }
+{
+    let mut next = s;
+    let waiting = next.orders[at];
+    if waiting.lots <= lots {
+        let last = next.count - 1;
+        let mut i = at;
+        while i < last {
+            let later = next.orders[i + 1];
+            next.orders[i] = later;
+            i += 1;
+        }
+        next.count = last;
+        return next;
+    }
+    next.orders[at] = with_lots(waiting, waiting.lots - lots);
     next
 }
 
@@ -297,20 +306,13 @@ fn traded(s: State, buy: Order, sell: Order, at: usize, price: u64, lots: u64) -
     ensures { λ r. ⌜ view r ≡ dayTraded (view s) buy sell at price lots ⌝ }
 {
     let security = buy.security as usize;
-    let table = s.table;
-    let line = table[security];
+    let line = s.table[security];
     let pieces = pieces_of(line, lots);
     let sum = sum_for(line, price, lots);
-    let turnover = s.turnover;
-    let new_turnover = counted(turnover, security, pieces, sum);
-    let orders = s.orders;
-    let waiting = taken_off(orders, s.count, at, lots);
-    let new_orders = waiting.orders;
+    let turnover = s.turnover[security];
     let mut next = settle(s, buy, sell, price, lots);
-    next.turnover = new_turnover;
-    next.orders = new_orders;
-    next.count = waiting.count;
-    next
+    next.turnover[security] = counted(turnover, pieces, sum);
+    lots_off(next, at, lots)
 }
 
 // The numbers of a trade, as trade number `at` of the lent list.
@@ -361,15 +363,14 @@ fn trade_with(s: State, e: Order, at: usize, lots: u64, trades: &mut [u64], numb
     requires { ⌜ TradeReady s e at lots number (now trades) ⌝ }
     ensures { λ r. ⌜ TradeDone s e at lots number (now (trades .entry)) (now (trades .exit)) r ⌝ }
 {
-    let orders = s.orders;
-    let o = orders[at];
+    let o = s.orders[at];
     let kind = o.kind;
     let price = price_of(kind);
     let side = e.side;
     let buy = if_buy(side, e, o);
     let sell = if_buy(side, o, e);
-    let table = s.table;
-    let line = table[buy.security as usize];
+    let security = buy.security as usize;
+    let line = s.table[security];
     write_trade(trades, number, line, buy, sell, price, lots);
     traded(s, buy, sell, at, price, lots)
 }

@@ -20,7 +20,7 @@ use Rattle.market.specs.Sound.{isOpen, lineSound, lotsSound, priceSound, rulesS
 use Rattle.market.specs.Calls.{entryOf}
 use Rattle.market.specs.Questions.{covered, orderQuestions}
 use Rattle.market.specs.Matching.{Filled, fill}
-use Rattle.market.specs.Entry.{admitted, finished}
+use Rattle.market.specs.Entry.{admitted, finished, leftWaiting}
 use Rattle.market.proofs.Logic.{and-true, below-all, both, within-high, within-low}
 use Rattle.market.proofs.Lists.{all-map}
 use Rattle.market.proofs.Questions.{all-yes, yes}
@@ -51,13 +51,17 @@ finished-waits Kept d e = go (e .lots =? 0) refl
     go true q = omega (arith, length-append (d .waiting) [])
     go false q = omega (arith, length-append (d .waiting) (e ∷ []), eqb-false (e .lots) 0 q)
 
--- after the fill, what is left of an entry as k can be freed, or wait
+-- after the fill, what is left of an entry as k can be freed, and has a place where it waits
 finishes-as : {r : Rules} {b : Book} (k : TimeInForce) (d : Day) (e : Order) → Matching ⊥ k r b d e → Finishes d k e
-finishes-as Kept d e m = omega (arith, m .room)
-finishes-as {r} {b} ImmediateOrCancel d e m =
-    flight-frees (record { force = ImmediateOrCancel; rules = r; book = b; matching = m })
-finishes-as {r} {b} FillOrKill d e m =
-    flight-frees (record { force = FillOrKill; rules = r; book = b; matching = m })
+finishes-as {r} {b} k d e m = record {
+  freeable = flight-frees (record { force = k; rules = r; book = b; matching = m });
+  room = go k m;
+}
+  where
+    go : (k : TimeInForce) → Matching ⊥ k r b d e → 0 < leftWaiting k e → length (d .waiting) < maxWaiting
+    go Kept m h = omega (arith, m .room)
+    go ImmediateOrCancel m h = absurd (omega arith)
+    go FillOrKill m h = absurd (omega arith)
 
 module _ (d : Day) (size : Sized d) (e : sound d ≡ true) where
   pub good : Good ⊥ (d .rules) (bookOf d) d

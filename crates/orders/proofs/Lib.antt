@@ -1,4 +1,6 @@
 pub mod Place
+pub mod Asking
 pub mod Allowing
+pub mod Finishing
 pub mod Accepting
 pub mod Calling

@@ -20,7 +20,6 @@ use matching::fill;
 use matching::fitting_lots;
 use matching::with_lots;
 use waiting::admitted;
-use waiting::appended;
 use waiting::covers;
 use waiting::left;
 use waiting::released;
@@ -34,11 +33,11 @@ ghost use Rattle.market.specs.Day.{firstOrders, view};
 ghost use Rattle.market.specs.Sound.{sound};
 ghost use Rattle.market.specs.Waiting.{placeOf};
 ghost use Rattle.market.specs.Calls.{cancel as cancelCall, entryOf, order};
-ghost use Rattle.market.specs.Questions.{fillable, roomFor};
-ghost use Rattle.market.specs.Entry.{entered as dayEntered, finished as dayFinished, leftWaiting};
+ghost use Rattle.market.specs.Questions.{fillable, firstNo, roomFor};
+ghost use Rattle.market.specs.Entry.{finished as dayFinished, leftWaiting};
 ghost use Rattle.market.specs.Contract.{Does};
 ghost use Rattle.matching.specs.Orders.{FewLots};
-ghost use Rattle.orders.specs.Entering.{Enters, Finishes, Gives, orderNo};
+ghost use Rattle.orders.specs.Entering.{Enters, Finishes, earlyQuestions, orderNo};
 ghost use Rattle.orders.specs.Finding.{foundAt, isOwn as ownOrder};
 
 // Place of a waiting order.
@@ -86,10 +85,10 @@ fn is_fillable(s: State, force: TimeInForce, entry: Order) -> bool
     }
 }
 
-// The first "no" from question 4 on; 0 where there is none.
-fn first_no(s: State, participant: u64, member: Member, force: TimeInForce) -> u64
-    requires { ⌜ sound (view s) ≡ true ⌝ }
-    ensures { λ r. ⌜ r ≡ orderNo (view s) participant member force ⌝ }
+// Questions 4 to 7, which ask for no line of the table. Were they asked in `first_no`, the compiler would take what
+// follows them for rare, and hand copies of the state to the calls there.
+fn early_no(s: State, participant: u64, member: Member) -> u64
+    ensures { λ r. ⌜ r ≡ firstNo (earlyQuestions (view s) participant member) ⌝ }
 {
     if s.participants <= participant {
         return 4;
@@ -103,6 +102,18 @@ fn first_no(s: State, participant: u64, member: Member, force: TimeInForce) -> u
     }
     if !within(1, MAX_LOTS, member.lots) {
         return 7;
+    }
+    0
+}
+
+// The first "no" from question 4 on; 0 where there is none.
+fn first_no(s: State, participant: u64, member: Member, force: TimeInForce) -> u64
+    requires { ⌜ sound (view s) ≡ true ⌝ }
+    ensures { λ r. ⌜ r ≡ orderNo (view s) participant member force ⌝ }
+{
+    let early = early_no(s, participant, member);
+    if 0 < early {
+        return early;
     }
     let table = s.table;
     let line = table[member.security as usize];
@@ -135,42 +146,25 @@ fn left_waiting(force: TimeInForce, rest: Order) -> u64
     }
 }
 
-// What is left of a kept order waits; of any other, its need is freed.
+// What is left of a kept order waits; of any other, its need is freed. The freeing stands in no branch, since a state
+// that goes through a call in a branch is copied: of a kept order it frees the need of no lots.
 fn finished(s: State, force: TimeInForce, rest: Order) -> State
     requires { ⌜ Finishes (view s) force rest ⌝ }
     ensures { λ r. ⌜ view r ≡ dayFinished force (view s) rest ⌝ }
 {
-    match force {
-        TimeInForce::Kept => if rest.lots == 0 { s } else { appended(s, rest) },
-        TimeInForce::ImmediateOrCancel => released(s, rest),
-        TimeInForce::FillOrKill => released(s, rest),
-    }
-}
-
-// An order whose questions are all answered "yes": it is admitted and matched, and what is left of it waits or is freed.
-fn entered(
-    s: State,
-    participant: u64,
-    member: Member,
-    force: TimeInForce,
-    trades: &mut [u64],
-) -> Outcome
-    requires { ⌜ (sound (view s) ≡ true) × (orderNo (view s) participant member force ≡ 0) × (numbersPerTrade * s .count ≤ length (now trades)) ⌝ }
-    ensures { λ r. ⌜ Gives (dayEntered (view s) (entryOf (view s) participant member) force) (now (trades .entry)) (now (trades .exit)) r ⌝ }
-{
-    let entry = entry_of(s, participant, member);
-    let filled = fill(admitted(s, entry), entry, trades);
-    let rest = with_lots(entry, filled.left);
-    let matched = filled.state;
-    let state = finished(matched, force, rest);
     let waits = left_waiting(force, rest);
-    Outcome {
-        answer: Answer::Done(entry.code, entry.lots - filled.left, waits, filled.trades),
-        state,
+    let dropped = with_lots(rest, rest.lots - waits);
+    let mut next = released(s, dropped);
+    if 0 < waits {
+        let count = next.count;
+        next.orders[count] = rest;
+        next.count = count + 1;
     }
+    next
 }
 
-// The entry of an order from question 4 on.
+// The entry of an order from question 4 on: where all are answered "yes" it is admitted and matched, and what is left of
+// it waits or is freed. In a function of their own these steps would hand the state over in one copy more.
 pub fn enter(
     s: State,
     participant: u64,
@@ -185,7 +179,16 @@ pub fn enter(
     if 0 < number {
         return refused(s, number);
     }
-    entered(s, participant, member, force, trades)
+    let entry = entry_of(s, participant, member);
+    let filled = fill(admitted(s, entry), entry, trades);
+    let rest = with_lots(entry, filled.left);
+    let matched = filled.state;
+    let state = finished(matched, force, rest);
+    let waits = left_waiting(force, rest);
+    Outcome {
+        answer: Answer::Done(entry.code, entry.lots - filled.left, waits, filled.trades),
+        state,
+    }
 }
 
 pub fn enter_order(

@@ -1,7 +1,7 @@
 -- The parts that code reckons make up the definition's day.
 use Prim.Native.Nat.{ℕ, zero, suc, _+_, _≤_, _<_}
 use native.Mathlib.Omega.{arith}
-use mathlib.Core.Path.{_≡_, refl, ap, sym, _∙_}
+use mathlib.Core.Path.{_≡_, refl, ap, _∙_}
 use mathlib.Core.List.{List, [], _∷_, _++_}
 use lib.ListN.{length, set}
 use lib.Seq.{getD-set-same}
@@ -9,61 +9,50 @@ use borrow.Author.Tests.{leb-true}
 use Rattle.market.specs.declared.Order.{Order}
 use Rattle.market.specs.declared.Position.{Position}
 use Rattle.market.specs.declared.Side.{Side}
-use Rattle.market.specs.declared.Side.the-variants.{Buy, Sell}
-use Rattle.market.specs.Limits.{columns, moneyLimit}
-use Rattle.market.specs.Tests.{removeAt}
+use Rattle.market.specs.Limits.{moneyLimit}
+use Rattle.market.specs.Tests.{_≤?_, removeAt}
 use Rattle.market.specs.Day.{Day, firstOrders, noOrder, orderAt, place, position, positions, withCodes, withPositions}
 use Rattle.market.specs.Day.{withWaiting}
-use Rattle.market.specs.Needs.{assetOf, columnOf, need, placeFor}
+use Rattle.market.specs.Needs.{assetOf, columnOf, need}
 use Rattle.market.specs.Positions.{block, blockFor, change, release, releaseFor}
 use Rattle.market.specs.Waiting.{leave}
 use Rattle.market.specs.Questions.{covered}
 use Rattle.market.specs.Entry.{admitted}
 use Rattle.matching.proofs.First.{first-next}
-use Rattle.waiting.specs.declared.Claim.{Claim}
-use Rattle.waiting.specs.Claims.{Admissible, Claimed, Freeable, Reckonable, positionFor}
+use Rattle.waiting.specs.Claims.{Admissible, Freeable, positionFor}
 
--- the claim of an order of side x
-pub claimed : (d : Day) (o : Order) (x : Side) → o .side ≡ x → Reckonable d o → (c : Claim)
-    → c .need ≡ need (d .rules) (d .turnover) o → c .at ≡ place (o .participant) (columnOf x (d .rules) (o .security))
-    → c .position ≡ position (positions (assetOf x) d) (c .at) → Claimed d o c
-claimed d o x e ok c own at there =
-    let here : c .at ≡ placeFor (d .rules) o =
-    at ∙ ap (λ (y : Side). place (o .participant) (columnOf y (d .rules) (o .security))) (sym e) in
-    record {
-      need = own;
-      at = here;
-      inside = omega (arith, at, ok .participant, narrow x);
-      position = there ∙ rw (here, e);
-    }
-  where
-    narrow : (y : Side) → columnOf y (d .rules) (o .security) < columns
-    narrow Buy = ok .currency
-    narrow Sell = ok .security
+-- an order of side x, its need and the place where it blocks
+module _ (d : Day) (o : Order) (x : Side) (side : o .side ≡ x) (n at : ℕ) (own : n ≡ need (d .rules) (d .turnover) o)
+    (here : at ≡ place (o .participant) (columnOf x (d .rules) (o .security))) where
+  abbrev there : Position
+  there = position (positions (assetOf x) d) at
 
--- its position set
-abbrev pub stored : Day → Order → Claim → Position → Day
-stored d o c p = withPositions (assetOf (o .side)) d (set (positions (assetOf (o .side)) d) (c .at) p)
+  found : there ≡ positionFor d o
+  found = rw (here, ← side)
 
-module _ (d : Day) (o : Order) (c : Claim) (claim : Claimed d o c) where
-  pub day-admitted : (q : Day) → q ≡ stored d o c (block (c .need) (c .position))
-      → withCodes q (d .codes + 1) ≡ admitted d o
+  pub day-covers : (n ≤? (there .free)) ≡ covered d o
+  unfolding covered
+  day-covers = rw (found, own)
+
+  pub day-admitted : (p : Position) → p ≡ block n there
+      → withPositions (assetOf x) (withCodes d (d .codes + 1)) (set (positions (assetOf x) d) at p) ≡ admitted d o
   unfolding admitted blockFor change
-  day-admitted q e = rw (e, claim .position, claim .need, claim .at)
+  day-admitted p e = rw (e, own, here, ← side)
 
-  pub day-released : (q : Day) → q ≡ stored d o c (release (c .need) (c .position)) → q ≡ releaseFor d o
+  pub day-released : (p : Position) → p ≡ release n there
+      → withPositions (assetOf x) d (set (positions (assetOf x) d) at p) ≡ releaseFor d o
   unfolding releaseFor change
-  day-released q e = rw (e, claim .position, claim .need, claim .at)
+  day-released p e = rw (e, own, here, ← side)
 
   -- its amounts move within what is there
-  pub room-to-block : Admissible d o → (c .need ≤ (c .position) .free) × ((c .position) .blocked + c .need ≤ moneyLimit)
+  pub room-to-block : Admissible d o → (n ≤ there .free) × (there .blocked + n ≤ moneyLimit)
   unfolding covered
   room-to-block a =
       let free = leb-true (need (d .rules) (d .turnover) o) ((positionFor d o) .free) (a .covers) in
-      rw (claim .position, claim .need) (free, omega (arith, a .within))
+      rw (found, own) (free, omega (arith, a .within))
 
-  pub room-to-free : Freeable d o → (c .need ≤ (c .position) .blocked) × ((c .position) .free + c .need ≤ moneyLimit)
-  room-to-free a = rw (claim .position, claim .need) (a .blocked, omega (arith, a .blocked, a .within))
+  pub room-to-free : Freeable d o → (n ≤ there .blocked) × (there .free + n ≤ moneyLimit)
+  room-to-free a = rw (found, own) (a .blocked, omega (arith, a .blocked, a .within))
 
 pub day-left : (d : Day) (i : ℕ) (o : Order) (q : Day) (w : List Order) → o ≡ orderAt (d .waiting) i
     → q ≡ releaseFor d o → w ≡ removeAt (d .waiting) i → withWaiting q w ≡ leave d i

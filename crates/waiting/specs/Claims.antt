@@ -5,24 +5,16 @@ use mathlib.Core.Bool.{true}
 use lib.ListN.{length}
 use Rattle.market.specs.declared.Order.{Order}
 use Rattle.market.specs.declared.Position.{Position}
-use Rattle.market.specs.Limits.{columns, maxLot, maxLots, maxPrice, maxWaiting, moneyLimit, places}
+use Rattle.market.specs.Limits.{columns, maxLot, maxLots, maxPrice, maxWaiting, moneyLimit}
 use Rattle.market.specs.Day.{Day, currencyOf, line, orderAt, position, positions}
 use Rattle.market.specs.Codes.{codeLeft}
 use Rattle.market.specs.Needs.{assetOf, limitOf, need, placeFor}
 use Rattle.market.specs.Positions.{total}
 use Rattle.market.specs.Questions.{covered}
-use Rattle.waiting.specs.declared.Claim.{Claim}
 
 -- the position where an order blocks
 abbrev pub positionFor : Day → Order → Position
 positionFor d o = position (positions (assetOf (o .side)) d) (placeFor (d .rules) o)
-
--- need, place and position of an order
-pub record Claimed (d : Day) (o : Order) (c : Claim) : Type 0 where
-  pub need : c .need ≡ need (d .rules) (d .turnover) o
-  pub at : c .at ≡ placeFor (d .rules) o
-  pub inside : c .at < places
-  pub position : c .position ≡ positionFor d o
 
 -- its need can be reckoned
 pub record Reckonable (d : Day) (o : Order) : Type 0 where

@@ -8,28 +8,49 @@ use market::State;
 use matching::removed;
 ghost use mathlib.Core.Path.{_≡_};
 ghost use mathlib.Core.List.{[], _∷_, _++_};
-ghost use Prim.Native.Nat.{_<_};
-ghost use lib.ListN.{set};
-ghost use Rattle.market.specs.Limits.{maxWaiting, places};
-ghost use Rattle.market.specs.Day.{positions, view, withPositions, withWaiting};
-ghost use Rattle.market.specs.Needs.{assetOf};
-ghost use Rattle.market.specs.Positions.{releaseFor};
+ghost use Prim.Native.Nat.{_+_, _≤_, _<_};
+ghost use Rattle.market.specs.Limits.{maxWaiting, moneyLimit};
+ghost use Rattle.market.specs.Tests.{_≤?_};
+ghost use Rattle.market.specs.Day.{view, withWaiting};
+ghost use Rattle.market.specs.Positions.{block, release, releaseFor};
 ghost use Rattle.market.specs.Waiting.{leave};
 ghost use Rattle.market.specs.Questions.{covered};
 ghost use Rattle.market.specs.Entry.{admitted as dayAdmitted};
-ghost use Rattle.waiting.specs.Claims.{Admissible, Claimed, Freeable, Leaves, Reckonable};
+ghost use Rattle.waiting.specs.Claims.{Admissible, Freeable, Leaves, Reckonable};
 
-// What an order needs, and the position where it blocks.
-struct Claim {
-    need: u64,
-    at: usize,
-    position: Position,
+// Equality suffices.
+fn suffices(p: Position, need: u64) -> bool
+    ensures { λ r. ⌜ r ≡ (need ≤? p .free) ⌝ }
+{
+    need <= p.free
 }
 
-// A buy claims money in its security's currency, a sell pieces of its security.
-fn claim_of(s: State, o: Order) -> Claim
+// A need moves from free to blocked.
+fn with_blocked(p: Position, need: u64) -> Position
+    requires { ⌜ (need ≤ p .free) × (p .blocked + need ≤ moneyLimit) ⌝ }
+    ensures { λ r. ⌜ r ≡ block need p ⌝ }
+{
+    Position {
+        free: p.free - need,
+        blocked: p.blocked + need,
+    }
+}
+
+// And back to free.
+fn with_freed(p: Position, need: u64) -> Position
+    requires { ⌜ (need ≤ p .blocked) × (p .free + need ≤ moneyLimit) ⌝ }
+    ensures { λ r. ⌜ r ≡ release need p ⌝ }
+{
+    Position {
+        free: p.free + need,
+        blocked: p.blocked - need,
+    }
+}
+
+// Question 14. It copies the lists that it reads: an index into the state itself would copy all of it.
+pub fn covers(s: State, o: Order) -> bool
     requires { ⌜ Reckonable (view s) o ⌝ }
-    ensures { λ r. ⌜ Claimed (view s) o r ⌝ }
+    ensures { λ r. ⌜ r ≡ covered (view s) o ⌝ }
 {
     let security = o.security as usize;
     let table = s.table;
@@ -43,58 +64,42 @@ fn claim_of(s: State, o: Order) -> Claim
             let at = place_of(o.participant, line.currency);
             let money = s.money;
             let position = money[at];
-            Claim { need, at, position }
+            suffices(position, need)
         }
         Side::Sell => {
             let at = place_of(o.participant, o.security);
             let pieces = s.pieces;
             let position = pieces[at];
-            Claim { need, at, position }
+            suffices(position, need)
         }
     }
 }
 
-// The position where an order of this side blocks, set: of money for a buy, of pieces for a sell.
-fn with_position(s: State, side: Side, at: usize, position: Position) -> State
-    requires { ⌜ at < places ⌝ }
-    ensures { λ r. ⌜ view r ≡ withPositions (assetOf side) (view s) (set (positions (assetOf side) (view s)) at position) ⌝ }
-{
-    let mut next = s;
-    match side {
-        Side::Buy => {
-            next.money[at] = position;
-        }
-        Side::Sell => {
-            next.pieces[at] = position;
-        }
-    }
-    next
-}
-
-// Question 14.
-pub fn covers(s: State, o: Order) -> bool
-    requires { ⌜ Reckonable (view s) o ⌝ }
-    ensures { λ r. ⌜ r ≡ covered (view s) o ⌝ }
-{
-    let claim = claim_of(s, o);
-    let position = claim.position;
-    claim.need <= position.free
-}
-
-// The order has the next code, and its need is blocked.
+// The order has the next code, and its need is blocked. One local is read and written in place, here and in `released`:
+// a second one would be a copy of the state.
 pub fn admitted(s: State, o: Order) -> State
     requires { ⌜ Admissible (view s) o ⌝ }
     ensures { λ r. ⌜ view r ≡ dayAdmitted (view s) o ⌝ }
 {
-    let claim = claim_of(s, o);
-    let old = claim.position;
-    let position = Position {
-        free: old.free - claim.need,
-        blocked: old.blocked + claim.need,
-    };
+    let mut next = s;
+    let security = o.security as usize;
+    let line = next.table[security];
+    let turnover = next.turnover[security];
+    let need = need_of(line, turnover, o);
+    next.codes = next.codes + 1;
     let side = o.side;
-    let mut next = with_position(s, side, claim.at, position);
-    next.codes = s.codes + 1;
+    match side {
+        Side::Buy => {
+            let at = place_of(o.participant, line.currency);
+            let old = next.money[at];
+            next.money[at] = with_blocked(old, need);
+        }
+        Side::Sell => {
+            let at = place_of(o.participant, o.security);
+            let old = next.pieces[at];
+            next.pieces[at] = with_blocked(old, need);
+        }
+    }
     next
 }
 
@@ -103,14 +108,25 @@ pub fn released(s: State, o: Order) -> State
     requires { ⌜ Freeable (view s) o ⌝ }
     ensures { λ r. ⌜ view r ≡ releaseFor (view s) o ⌝ }
 {
-    let claim = claim_of(s, o);
-    let old = claim.position;
-    let position = Position {
-        free: old.free + claim.need,
-        blocked: old.blocked - claim.need,
-    };
+    let mut next = s;
+    let security = o.security as usize;
+    let line = next.table[security];
+    let turnover = next.turnover[security];
+    let need = need_of(line, turnover, o);
     let side = o.side;
-    with_position(s, side, claim.at, position)
+    match side {
+        Side::Buy => {
+            let at = place_of(o.participant, line.currency);
+            let old = next.money[at];
+            next.money[at] = with_freed(old, need);
+        }
+        Side::Sell => {
+            let at = place_of(o.participant, o.security);
+            let old = next.pieces[at];
+            next.pieces[at] = with_freed(old, need);
+        }
+    }
+    next
 }
 
 // The order at this place leaves, whatever the reason: its need is freed, and it gives its place up.

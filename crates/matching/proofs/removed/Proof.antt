@@ -1,22 +1,18 @@
 -- `matching::removed` meets its contract: each later order moves a place forward.
-use Prim.Native.Nat.{_+_, _-_, _≤_}
+use Prim.Native.Nat.{_+_, _-_}
 use native.Mathlib.Omega.{arith}
-use mathlib.Core.Path.{_∙_, _≡_, ap, refl, sym}
-use lib.ListN.{drop, length, length-set, take}
+use mathlib.Core.Path.{_∙_, _≡_, ap}
+use lib.ListN.{length}
 use borrow.Author.Needs.{needs}
 use Rattle.market.specs.Limits.{maxWaiting}
 use Rattle.market.specs.Tests.{removeAt}
-use Rattle.market.proofs.View.{first-take}
-use Rattle.matching.proofs.Removal.{remove-start, shift}
+use Rattle.market.specs.Day.{firstOrders}
+use Rattle.matching.proofs.Removal.{Moved, moved-ends, moved-next, moved-starts}
 use Rattle.matching.proofs.removed.Statement.{statement}
 use Rattle.matching.proofs.removed.Tie as tie
 
 abbrev Inv-loop : tie.InvT-loop
-Inv-loop count at next₀ i₀ last next i =
-    ((at ≤ i) × (i ≤ last))
-    × (length next ≡ maxWaiting)
-    × (take i next ≡ removeAt (take (i + 1) next₀) at)
-    × (drop (i + 1) next ≡ drop (i + 1) next₀)
+Inv-loop count at next₀ i₀ last next i = Moved next₀ next at last i
 
 abbrev μ-loop : tie.MeasureT-loop
 μ-loop count at next₀ i₀ last next i = last - i
@@ -25,7 +21,7 @@ sub-last : tie.Need-sub-last Inv-loop μ-loop
 sub-last c = omega arith
 
 loop-holds : tie.Need-loop-holds Inv-loop μ-loop
-loop-holds c = (omega arith, search needs, remove-start (c .args .orders) (c .args .at), refl)
+loop-holds c = moved-starts (c .args .orders) (c .args .at) (c .args .count - 1) (omega arith)
 
 add-o : tie.Need-add-o Inv-loop μ-loop
 add-o c = omega arith
@@ -51,22 +47,16 @@ loop-less c = omega arith
 loop-again : tie.Need-loop-again Inv-loop μ-loop
 loop-again c =
     let a = c .before .before .before .args in
-    let l = c .before .before .loop in
     let start : length (a .orders) ≡ maxWaiting = search needs in
-    let s = shift (a .orders) (l .next) (a .at) (l .i) _ (omega arith) (omega arith) (omega arith) (l .inv .2)
-    (l .inv .3) in
-    (omega arith, simp length-set (omega arith), s .0, s .1)
+    moved-next (c .before .before .loop .inv) (omega arith) _ (c .before .loop-test .taken)
 
 returns : tie.Need-returns Inv-loop μ-loop
 returns c =
     let a = c .before .before .args in
-    let l = c .before .loop in
-    let e : l .i ≡ a .count - 1 = omega arith in
-    let f : l .i + 1 ≡ a .count = omega arith in
     let start : length (a .orders) ≡ maxWaiting = search needs in
-    first-take (a .count - 1) (l .next) (omega arith)
-    ∙ (rw (← e) (l .inv .2 ∙ ap (λ k. removeAt (take k (a .orders)) (a .at)) f))
-    ∙ ap (λ w. removeAt w (a .at)) (sym (first-take (a .count) (a .orders) (omega arith)))
+    let all : a .count - 1 + 1 ≡ a .count = omega arith in
+    moved-ends (c .before .loop .inv) (omega arith) (omega arith)
+    ∙ ap (λ n. removeAt (firstOrders n (a .orders)) (a .at)) all
 
 pub removed-spec : {M : Type 1} → statement M
 removed-spec =

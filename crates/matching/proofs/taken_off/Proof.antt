@@ -18,8 +18,8 @@ array-copy-out-o c = search needs
 removed-requires : tie.Need-removed-requires
 removed-requires c κs = search needs
 
-sub-t14 : tie.Need-sub-t14
-sub-t14 c = search needs
+sub-t15 : tie.Need-sub-t15
+sub-t15 c = search needs
 
 returns : tie.Need-returns
 returns c =
@@ -29,7 +29,7 @@ returns c =
       room = omega arith;
       waiting =
           c .removed .ensures
-          ∙ sym (filled-goes (a .count) (a .orders) (a .at) (a .lots) (pre .0) (c .before .if1 .taken));
+          ∙ sym (filled-goes (a .count) (a .t1) (a .at) (a .lots) (pre .0) (c .before .if1 .taken));
     }
 
 sub-with-lots : tie.Need-sub-with-lots
@@ -48,12 +48,12 @@ returns-2 : tie.Need-returns-2
 returns-2 c =
     let a = c .before .before .before .before .before .args in
     let pre = c .before .before .before .before .before .pre in
-    let start : length (a .orders) ≡ maxWaiting = search needs in
+    let start : length (a .t1) ≡ maxWaiting = search needs in
     record {
       room = omega arith;
       waiting =
-          ap (λ o. firstOrders (a .count) (set (a .orders) (a .at) o)) (c .with-lots .ensures)
-          ∙ less-stays (a .count) (a .orders) (a .at) (a .lots) (pre .0) (omega arith) (c .before .before .if1 .left);
+          ap (λ o. firstOrders (a .count) (set (a .t1) (a .at) o)) (c .with-lots .ensures)
+          ∙ less-stays (a .count) (a .t1) (a .at) (a .lots) (pre .0) (omega arith) (c .before .before .if1 .left);
     }
 
 pub taken-off-spec : {M : Type 1} → statement M
@@ -63,7 +63,7 @@ taken-off-spec =
     mul-o
     array-copy-out-o
     removed-requires
-    sub-t14
+    sub-t15
     returns
     sub-with-lots
     with-lots-requires

@@ -14,8 +14,8 @@ use Rattle.matching.proofs.trade_with.Tie as tie
 mul-o : tie.Need-mul-o
 mul-o c = search needs
 
-array-copy-out-o : tie.Need-array-copy-out-o
-array-copy-out-o c = search needs
+element-copy-out-o : tie.Need-element-copy-out-o
+element-copy-out-o c = search needs
 
 price-of-requires : tie.Need-price-of-requires
 price-of-requires c κs = search needs
@@ -27,53 +27,53 @@ if-buy-requires-2 : tie.Need-if-buy-requires-2
 if-buy-requires-2 c κs = search needs
 
 -- the order at place `at` of the array is the one that waits there
-order : (c : tie.Start) → orderAt (c .args .s .orders) (c .args .at) ≡ waitingAt (c .args .s) (c .args .at)
+order : (c : tie.Start) → orderAt (c .args .t1 .orders) (c .args .at) ≡ waitingAt (c .args .t1) (c .args .at)
 order c =
     let a = c .args in
-    sym (first-at (a .s .count) (a .s .orders) (a .at)
-    (omega (arith, first-length (a .s .count) (a .s .orders), c .pre .trade .waits)))
+    sym (first-at (a .t1 .count) (a .t1 .orders) (a .at)
+    (omega (arith, first-length (a .t1 .count) (a .t1 .orders), c .pre .trade .waits)))
 
 abbrev start : tie.After-if-buy2 → tie.Start
-start c = c .before .before .before .before .before .before
+start c = c .before .before .before .before .before
 
 price : (c : tie.After-if-buy2)
-    → c .before .before .price-of .result ≡ priceOf (waitingAt ((start c) .args .s) ((start c) .args .at))
+    → c .before .before .price-of .result ≡ priceOf (waitingAt ((start c) .args .t1) ((start c) .args .at))
 price c = c .before .before .price-of .ensures ∙ ap priceOf (order (start c))
 
 buy : (c : tie.After-if-buy2)
-    → c .before .if-buy .result ≡ buyOf ((start c) .args .e) (waitingAt ((start c) .args .s) ((start c) .args .at))
+    → c .before .if-buy .result ≡ buyOf ((start c) .args .e) (waitingAt ((start c) .args .t1) ((start c) .args .at))
 buy c = c .before .if-buy .ensures ∙ ap (buyOf ((start c) .args .e)) (order (start c))
 
 sell : (c : tie.After-if-buy2)
-    → c .if-buy2 .result ≡ sellOf ((start c) .args .e) (waitingAt ((start c) .args .s) ((start c) .args .at))
+    → c .if-buy2 .result ≡ sellOf ((start c) .args .e) (waitingAt ((start c) .args .t1) ((start c) .args .at))
 sell c = c .if-buy2 .ensures ∙ ap (sellOf ((start c) .args .e)) (order (start c))
 
 trade : (c : tie.After-if-buy2)
-    → Tradable (view ((start c) .args .s)) (c .before .if-buy .result) (c .if-buy2 .result) ((start c) .args .at)
+    → Tradable (view ((start c) .args .t1)) (c .before .if-buy .result) (c .if-buy2 .result) ((start c) .args .at)
     (c .before .before .price-of .result) ((start c) .args .lots)
 trade c = trade-ready ((start c) .pre) (buy c) (sell c) (price c)
 
 mul-line : tie.Need-mul-line
-mul-line c = omega (arith, (trade (c .before)) .settles .security)
+mul-line c = omega (arith, (trade c) .settles .security)
 
-array-copy-out-line : tie.Need-array-copy-out-line
-array-copy-out-line c = (trade (c .before)) .settles .security
+element-copy-out-line : tie.Need-element-copy-out-line
+element-copy-out-line c = (trade c) .settles .security
 
 write-trade-requires : tie.Need-write-trade-requires
 write-trade-requires c κs =
-    let k = c .before .before .before in
+    let k = c .before .before in
     let s = (trade k) .settles in
     ((start k) .pre .lent, (s .lot, s .price, omega (arith, s .bought, s .top)))
 
 traded-requires : tie.Need-traded-requires
-traded-requires c κs = trade (c .before .before .before .before .before .before)
+traded-requires c κs = trade (c .before .before .before .before .before)
 
 same-length : tie.Need-same-length
 same-length c = search needs
 
 returns : tie.Need-returns
 returns c =
-    let k = c .before .before .before .before .before .before .before in
+    let k = c .before .before .before .before .before .before in
     trade-done ((start k) .pre) (buy k) (sell k) (price k) (c .traded .ensures)
     (c .before .before .before .write-trade .ensures)
 
@@ -82,12 +82,12 @@ trade-with-spec =
     tie.close
     (tie.spec
     mul-o
-    array-copy-out-o
+    element-copy-out-o
     price-of-requires
     if-buy-requires
     if-buy-requires-2
     mul-line
-    array-copy-out-line
+    element-copy-out-line
     write-trade-requires
     traded-requires
     same-length
