@@ -10,7 +10,7 @@ use Rattle.market.specs.declared.Answer.the-variants.{Refused}
 use Rattle.market.specs.declared.Outcome.{Outcome}
 use Rattle.market.specs.declared.State.{State}
 use Rattle.market.specs.Limits.{lentAtLeast, maxTrades}
-use Rattle.market.specs.Day.{Day, Sized, view}
+use Rattle.market.specs.Day.{view}
 use Rattle.market.specs.Sound.{sound}
 use Rattle.market.specs.TradeList.{Trade, written}
 use Rattle.market.specs.Answers.{Result, numbersOf, refused}

@@ -1,7 +1,7 @@
 -- What the program prints for a text.
 use Prim.Native.Nat.{ℕ, zero, suc, _+_}
 use mathlib.Core.List.{List, [], _∷_, _++_}
-use mathlib.Core.Bool.{Bool, true, false, cond}
+use mathlib.Core.Bool.{cond}
 use lib.ListN.{length}
 use Rattle.market.specs.declared.Answer.the-variants.{Refused}
 use Rattle.market.specs.Tests.{_<?_}

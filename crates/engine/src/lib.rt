@@ -24,7 +24,7 @@ ghost use Rattle.market.specs.Limits.{maxSecurities};
 ghost use Rattle.market.specs.Day.{Money, Pieces, view};
 ghost use Rattle.market.specs.Calls.{cancel as cancelCall, closingOrder, decrease, endSession};
 ghost use Rattle.market.specs.Calls.{increase, linked as linkedCall, order, startClosing};
-ghost use Rattle.market.specs.Opening.{firstWrong, noRules, opened as openedDay};
+ghost use Rattle.market.specs.Opening.{firstWrong, opened as openedDay};
 ghost use Rattle.market.specs.Contract.{Does, Opens};
 ghost use Rattle.engine.specs.Opening.{RefusedOpening};
 

@@ -24,7 +24,7 @@ ghost use Rattle.market.specs.Matching.{opposite as areOpposite, reaches as doe
 ghost use Rattle.matching.specs.Search.{bestOf, preferLater};
 ghost use Rattle.matching.specs.Orders.{FewLots, TakenOff};
 ghost use Rattle.matching.specs.Written.{tradeIn, tradeWritten};
-ghost use Rattle.matching.specs.Payable.{Countable, Payable};
+ghost use Rattle.matching.specs.Payable.{Countable};
 ghost use Rattle.matching.specs.Trading.{Reckoned, Settles, Tradable, TradeDone, TradeReady, fallWith};
 ghost use Rattle.matching.specs.Filling.{Fills, InFlight};
 

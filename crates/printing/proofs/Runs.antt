@@ -9,12 +9,12 @@ use mathlib.Core.List.{List, [], _∷_, _++_, append-assoc, append-nil}
 use lib.ListN.{drop, length, take, length-append, length-take}
 use lib.Seq.{drop-drop}
 use Rattle.market.specs.declared.Position.{Position}
-use Rattle.market.specs.Limits.{maxCurrencies, maxParticipants, maxSecurities, numbersPerTrade}
-use Rattle.market.specs.Day.{Day, place, position}
+use Rattle.market.specs.Limits.{numbersPerTrade}
+use Rattle.market.specs.Day.{place, position}
 use Rattle.market.specs.TradeList.{Trade, allNumbers, numbers, written}
 use Rattle.printing.specs.Buffer.{Puts, lineRoom}
-use Rattle.printing.specs.Lines.{columnLines, flatLines, letterM, letterQ, letterT, participantLines}
-use Rattle.printing.specs.Lines.{positionLine, positionLines, printedLine, tradeLines}
+use Rattle.printing.specs.Lines.{columnLines, flatLines, letterT, participantLines}
+use Rattle.printing.specs.Lines.{positionLine, printedLine, tradeLines}
 use Rattle.printing.proofs.Buffer.{puts-none, puts-then}
 use Rattle.printing.proofs.Lines.{line-length}
 
@@ -115,9 +115,6 @@ flat-front (t ∷ ts) l = ap (λ (x : List ℕ). printedLine letterT (numbers t)
 pub flat-lines : (ts : List Trade) (l : List ℕ) → flatLines (length ts) (written ts l) ≡ tradeLines ts
 flat-lines ts l = flat-front ts (drop (numbersPerTrade * length ts) l)
 
-pub trades-length : (ts : List Trade) → length (tradeLines ts) ≤ length ts * lineRoom numbersPerTrade
-trades-length ts = rw (← flat-lines ts []) (run-length (trade-run (written ts [])) (length ts) 0)
-
 -- within limits, the room of the participants' lines and their length
 module _ {participants columns : ℕ} (mostParticipants mostColumns : ℕ) (h : participants ≤ mostParticipants)
     (k : columns ≤ mostColumns) where
@@ -128,15 +125,3 @@ module _ {participants columns : ℕ} (mostParticipants mostColumns : ℕ) (h : 
       → length (participantLines letter l columns participants 0) ≤ mostParticipants * (mostColumns * lineRoom 4)
   participants-length letter l =
       le-trans (run-length (participant-run letter l columns) participants 0) participants-room
-
-pub positions-length : (d : Day) → d .rules .participants ≤ maxParticipants → d .rules .currencies ≤ maxCurrencies
-    → d .rules .securities ≤ maxSecurities
-    → length (positionLines d) ≤ maxParticipants * (maxCurrencies + maxSecurities) * lineRoom 4
-unfolding positionLines
-positions-length d p c s =
-    rw length-append
-    (omega (
-      arith,
-      participants-length maxParticipants maxCurrencies p c letterM (d .money),
-      participants-length maxParticipants maxSecurities p s letterQ (d .pieces),
-    ))

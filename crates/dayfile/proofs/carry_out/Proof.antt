@@ -1,9 +1,6 @@
 -- `dayfile::carry_out` meets its contract: command by command, the call that it makes, or 19.
 use mathlib.Core.Path.{refl}
-use mathlib.Core.List.{[]}
 use borrow.Author.Needs.{needs}
-use Rattle.market.specs.Day.{Money, Pieces, view}
-use Rattle.market.specs.Calls.{cancel, closingOrder, decrease, endSession, increase, linked, order, startClosing}
 use Rattle.market.specs.Questions.{questions}
 use Rattle.market.specs.Step.{result}
 use Rattle.market.proofs.Sized.{sized}

@@ -2,9 +2,7 @@
 use Prim.Native.Nat.{_≤_}
 use native.Mathlib.Omega.{arith}
 use mathlib.Core.Path.{_≡_, refl, sym, _∙_}
-use mathlib.Core.Bool.{true, false}
 use lib.ListN.{length}
-use borrow.Author.Needs.{needs}
 use Rattle.market.specs.Limits.{lentAtLeast}
 use Rattle.market.proofs.Logic.{never}
 use Rattle.amounts.proofs.Answers.{fails, holds}
