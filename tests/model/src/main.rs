@@ -18,6 +18,7 @@ mod clock;
 mod compare;
 #[cfg(feature = "engine")]
 mod engine_under_test;
+mod program;
 
 const FIRST_SEED: u64 = 1;
 const SEED_COUNT: u64 = 6_000;
@@ -27,6 +28,7 @@ usage: model compare [first-seed] [count]  engine and model on generated day fil
        model self-check [first-seed] [count]  model and book on generated day files
        model print [FILE]  the model's output for a day file or standard input
        model day SEED  the day file of a seed
+       model program PATH [first-seed] [count]  the day program and model on generated day files
        model bench  speed of engine and model";
 
 fn main() -> ExitCode {
@@ -46,6 +48,11 @@ fn run(arguments: &[String]) -> Result<(), String> {
         Some("self-check") => self_check(rest),
         Some("print") => print(rest),
         Some("day") => print_day(rest),
+        Some("program") => {
+            let path = rest.first().ok_or(USAGE)?;
+            let (first_seed, count) = seeds(&rest[1..])?;
+            program::compare_program(path, first_seed, count)
+        }
         #[cfg(feature = "engine")]
         Some("compare") => {
             let (first_seed, count) = seeds(rest)?;
