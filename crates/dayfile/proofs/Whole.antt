@@ -43,7 +43,7 @@ module _ {text before after : List ℕ} {r : Run} (b : Begins text before r afte
       sym (append-nil (take (r .filled) after))
       ∙ ap (λ (l : List ℕ). take (r .filled) after ++ l) (sym (none-left text r e))
       ∙ b .whole in
-      record { size = b .size; whole = λ some. all; enough = λ h. some-filled all }
+      record { size = b .size; inside = b .filled; whole = λ some. all; enough = λ h. some-filled all }
     where
       some-filled : take (r .filled) after ≡ printed text → 0 < r .filled
       some-filled all =
@@ -55,6 +55,7 @@ module _ {text before after : List ℕ} {r : Run} (b : Begins text before r afte
   pub prints-none : length after < r .filled + room → Prints text before 0 after
   prints-none h = record {
     size = b .size;
+    inside = omega arith;
     whole = λ some. absurd (omega (arith, some));
     enough = λ e. let p = part in let size = b .size in absurd (omega (arith, h, p, size, e));
   }
@@ -71,6 +72,7 @@ begins-then b c = record {
 pub prints-small : (text before : List ℕ) → length before < room → Prints text before 0 before
 prints-small text before h = record {
   size = refl;
+  inside = omega arith;
   whole = λ some. absurd (omega (arith, some));
   enough = λ e. absurd (omega (arith, h, e));
 }

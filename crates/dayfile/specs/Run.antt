@@ -67,5 +67,6 @@ pub record Fills (text : List ℕ) (r : Run) (before : List ℕ) (r′ : Run) (a
 -- the whole day in one buffer: all that is printed stands at its start, or it has no room for that, and n is 0
 pub record Prints (text before : List ℕ) (n : ℕ) (after : List ℕ) : Type 0 where
   pub size : length after ≡ length before
+  pub inside : n ≤ length after
   pub whole : 0 < n → take n after ≡ printed text
   pub enough : length (printed text) + room ≤ length before → 0 < n

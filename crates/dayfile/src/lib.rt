@@ -29,14 +29,14 @@ ghost use Rattle.dayfile.specs.Output.{maxText};
 ghost use Rattle.dayfile.specs.Run.{Begins, Continues, Fills, Going, Prints, TooLong, room};
 
 // A malformed line, or one out of its place.
-const MALFORMED: u64 = 19;
+pub const MALFORMED: u64 = 19;
 
 const TOO_LONG: u64 = 20;
 
 const MAX_TEXT: usize = 65536;
 
 // What a command, or the last positions, take of the buffer at most.
-const ROOM: usize = 32768;
+pub const ROOM: usize = 32768;
 
 // A run of a day file: the state, the place where the text goes on and the number of its line there, how much of the
 // buffer is filled, and whether all is printed.

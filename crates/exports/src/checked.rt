@@ -1,4 +1,6 @@
 // A day by the public calls, each of which tests whether the state is sound.
+use dayfile::MALFORMED;
+use dayfile::ROOM;
 use dayfile::Run;
 use dayfile::begin;
 use lines::Command;
@@ -20,15 +22,10 @@ ghost use Prim.Native.Nat.{_+_, _<_, _≤_};
 ghost use lib.ListN.{length};
 ghost use Rattle.dayfile.specs.Run.{room, toGo};
 
-const MALFORMED: u64 = 19;
-
 const MAX_TRADES: u64 = 136;
 
 // The lines of so many trades, 170 bytes each.
 const TRADES_ROOM: usize = 23120;
-
-// What a command, or the last positions, take of the buffer at most.
-const ROOM: usize = 32768;
 
 fn call(s: State, command: Command, members: [Member; 8], trades: &mut [u64; 1088]) -> Outcome {
     match command {

@@ -50,7 +50,7 @@ pub data Members : Type 0 where
   missing : Members
   taken : List Member → List ℕ → Members
 
--- a line that has to be a member's, for place i
+-- a line that has to be a member's
 abbrev pub memberBy : Command → (Member → Members) → Members
 memberBy (command.Heading a b c) next = missing
 memberBy (command.Security a b c) next = missing
