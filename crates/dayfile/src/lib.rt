@@ -193,6 +193,13 @@ pub fn resume(text: &[u8], from: Run, out: &mut [u8]) -> Run
     r
 }
 
+// `S` lines whose first fault stands on this line.
+fn wrong_securities(fault: u64, table: [Security; 16], next: usize) -> Securities
+    ensures { λ r. ⌜ r ≡ record { fault = fault; table = table; next = next } ⌝ }
+{
+    Securities { fault, table, next }
+}
+
 // The lines of n securities; more than 16 keep their form, and the opening refuses them.
 fn securities_at(text: &[u8], from: usize, n: u64) -> Securities
     requires { ⌜ length (now text) ≤ maxText ⌝ }
@@ -208,20 +215,12 @@ fn securities_at(text: &[u8], from: usize, n: u64) -> Securities
     let mut i: u64 = 0;
     while i < n {
         if text.len() <= at {
-            return Securities {
-                fault: i + 2,
-                table,
-                next: at,
-            };
+            return wrong_securities(i + 2, table, at);
         }
         let reading = command_at(text, at);
         let command = reading.command;
         let Command::Security(currency, lot, step) = command else {
-            return Securities {
-                fault: i + 2,
-                table,
-                next: at,
-            };
+            return wrong_securities(i + 2, table, at);
         };
         if i < MAX_SECURITIES {
             table[i as usize] = Security {

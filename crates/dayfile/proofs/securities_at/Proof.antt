@@ -17,11 +17,17 @@ abbrev μ-loop : tie.MeasureT-loop
 loop-holds : tie.Need-loop-holds Inv-loop μ-loop
 loop-holds c = passed-none _ _ _ (c .before .pre)
 
-add-t15 : tie.Need-add-t15 Inv-loop μ-loop
-add-t15 c = omega arith
+add-wrong-securities : tie.Need-add-wrong-securities Inv-loop μ-loop
+add-wrong-securities c = omega arith
+
+wrong-securities-requires : tie.Need-wrong-securities-requires Inv-loop μ-loop
+wrong-securities-requires c κs = tt
 
 returns : tie.Need-returns Inv-loop μ-loop
-returns c = passed-missing (c .before .before .loop .inv) (c .before .loop-test .taken) (c .if1 .taken)
+returns c =
+    let past = c .before in
+    let l = past .before in
+    rw (c .wrong-securities .ensures) (passed-missing (l .before .loop .inv) (l .loop-test .taken) (past .if1 .taken))
 
 command-at-requires : tie.Need-command-at-requires Inv-loop μ-loop
 command-at-requires c κs = tt
@@ -29,15 +35,20 @@ command-at-requires c κs = tt
 enum-known-command : tie.Need-enum-known-command Inv-loop μ-loop
 enum-known-command c = c .match .keys1
 
-add-t17 : tie.Need-add-t17 Inv-loop μ-loop
-add-t17 c = omega arith
+add-wrong-securities-2 : tie.Need-add-wrong-securities-2 Inv-loop μ-loop
+add-wrong-securities-2 c = omega arith
+
+wrong-securities-requires-2 : tie.Need-wrong-securities-requires-2 Inv-loop μ-loop
+wrong-securities-requires-2 c κs = tt
 
 returns-2 : tie.Need-returns-2 Inv-loop μ-loop
 returns-2 c =
-    let e = c .before .before in
+    let other = c .before in
+    let e = other .before .before in
     let l = e .before in
-    passed-wrong (l .before .loop .inv) (l .loop-test .taken) (e .if1 .left) (c .before .command-at .ensures)
-    (c .match .keys2)
+    rw (c .wrong-securities2 .ensures)
+    (passed-wrong (l .before .loop .inv) (l .loop-test .taken) (e .if1 .left) (other .before .command-at .ensures)
+    (other .match .keys2))
 
 mul-table : tie.Need-mul-table Inv-loop μ-loop
 mul-table c = omega arith
@@ -71,11 +82,13 @@ securities-at-spec =
     Inv-loop
     μ-loop
     loop-holds
-    add-t15
+    add-wrong-securities
+    wrong-securities-requires
     returns
     command-at-requires
     enum-known-command
-    add-t17
+    add-wrong-securities-2
+    wrong-securities-requires-2
     returns-2
     mul-table
     array-set-from-table
