@@ -7,6 +7,7 @@ pub mod Positions
 pub mod Waiting
 pub mod Sound
 pub mod TradeList
+pub mod Execution
 pub mod Answers
 pub mod Calls
 pub mod Matching
@@ -15,6 +16,7 @@ pub mod Entry
 pub mod Linked
 pub mod Closing
 pub mod Step
+pub mod Parts
 pub mod Opening
 pub mod Contract
 pub mod Edge

@@ -1,5 +1,5 @@
-// Order entry of the three kinds, and cancellation. Each function takes a sound state by `requires`; the public calls
-// test it.
+// Order entry of the three kinds, and cancellation. Questions are asked by functions that only read, so that a refusal copies nothing;
+// `enter` then moves lent positions and hands the order book on. `row` and `turnover` are those of the order's security.
 use amounts::price_sound;
 use amounts::within;
 use market::Answer;
@@ -8,53 +8,56 @@ use market::LENT_AT_LEAST;
 use market::MAX_CODES;
 use market::MAX_LOTS;
 use market::MAX_WAITING;
-use market::Member;
 use market::Order;
+use market::OrderBook;
 use market::Outcome;
+use market::Phase;
+use market::Security;
 use market::Side;
 use market::State;
+use market::Ticket;
 use market::TimeInForce;
+use market::Turnover;
 use market::is_open;
 use market::refused;
 use matching::fill;
 use matching::fitting_lots;
 use matching::with_lots;
-use waiting::admitted;
+use waiting::block_need;
 use waiting::covers;
+use waiting::free_need;
 use waiting::left;
-use waiting::released;
 ghost use mathlib.Core.Path.{_≡_};
 ghost use mathlib.Core.List.{[]};
 ghost use mathlib.Core.Bool.{true};
-ghost use Prim.Native.Nat.{_*_, _≤_};
-ghost use lib.ListN.{length};
-ghost use Rattle.market.specs.Limits.{maxCodes, maxWaiting, numbersPerTrade};
-ghost use Rattle.market.specs.Day.{firstOrders, view};
+ghost use Prim.Native.Nat.{_≤_};
+ghost use Rattle.market.specs.Limits.{maxCodes, maxWaiting};
+ghost use Rattle.market.specs.Day.{dayOf, view};
 ghost use Rattle.market.specs.Sound.{sound};
 ghost use Rattle.market.specs.Waiting.{placeOf};
-ghost use Rattle.market.specs.Calls.{cancel as cancelCall, entryOf, order};
-ghost use Rattle.market.specs.Questions.{fillable, firstNo, roomFor};
-ghost use Rattle.market.specs.Entry.{finished as dayFinished, leftWaiting};
+ghost use Rattle.market.specs.Calls.{cancel as cancelCall, order};
+ghost use Rattle.market.specs.Questions.{firstNo};
+ghost use Rattle.market.specs.Entry.{leftWaiting};
 ghost use Rattle.market.specs.Contract.{Does};
-ghost use Rattle.matching.specs.Orders.{FewLots};
-ghost use Rattle.orders.specs.Entering.{Enters, Finishes, earlyQuestions, orderNo};
+ghost use Rattle.matching.specs.Orders.{FewLots, waitingIn};
+ghost use Rattle.orders.specs.Entering.{Askable, Enterable, Enters, Joins, bookOf, earlyQuestions, entryWith, fillableIn, laterQuestions, roomWith, rulesOf};
 ghost use Rattle.orders.specs.Finding.{foundAt, isOwn as ownOrder};
 
 // Place of a waiting order.
-enum Found {
+pub enum Found {
     Nothing,
     At(usize),
 }
 
 // The order as it enters, under the next code.
-fn entry_of(s: State, participant: u64, member: Member) -> Order
-    requires { ⌜ s .codes ≤ maxCodes ⌝ }
-    ensures { λ r. ⌜ r ≡ entryOf (view s) participant member ⌝ }
+pub fn entry_of(codes: u64, participant: u64, member: Ticket) -> Order
+    requires { ⌜ codes ≤ maxCodes ⌝ }
+    ensures { λ r. ⌜ r ≡ entryWith codes participant member ⌝ }
 {
     let side = member.side;
     let kind = Kind::Kept(member.price);
     Order {
-        code: s.codes + 1,
+        code: codes + 1,
         participant,
         side,
         security: member.security,
@@ -64,39 +67,44 @@ fn entry_of(s: State, participant: u64, member: Member) -> Order
 }
 
 // Only a kept order may come to wait.
-fn has_room(s: State, force: TimeInForce) -> bool
-    ensures { λ r. ⌜ r ≡ roomFor force (view s) ⌝ }
+fn has_room(count: usize, force: TimeInForce) -> bool
+    ensures { λ r. ⌜ r ≡ roomWith force count ⌝ }
 {
     match force {
-        TimeInForce::Kept => s.count < MAX_WAITING as usize,
+        TimeInForce::Kept => count < MAX_WAITING as usize,
         TimeInForce::ImmediateOrCancel => true,
         TimeInForce::FillOrKill => true,
     }
 }
 
-fn is_fillable(s: State, force: TimeInForce, entry: Order) -> bool
-    requires { ⌜ FewLots (s .count) ((view s) .waiting) ⌝ }
-    ensures { λ r. ⌜ r ≡ fillable force (view s) entry ⌝ }
+// Question 15.
+pub fn is_fillable(book: OrderBook, force: TimeInForce, entry: Order) -> bool
+    requires { ⌜ FewLots (book .count) (waitingIn book) ⌝ }
+    ensures { λ r. ⌜ r ≡ fillableIn force (waitingIn book) entry ⌝ }
 {
     match force {
         TimeInForce::Kept => true,
         TimeInForce::ImmediateOrCancel => true,
-        TimeInForce::FillOrKill => entry.lots <= fitting_lots(s, entry),
+        TimeInForce::FillOrKill => entry.lots <= fitting_lots(book, entry),
     }
 }
 
-// Questions 4 to 7, which ask for no line of the table. Were they asked in `first_no`, the compiler would take what
-// follows them for rare, and hand copies of the state to the calls there.
-fn early_no(s: State, participant: u64, member: Member) -> u64
-    ensures { λ r. ⌜ r ≡ firstNo (earlyQuestions (view s) participant member) ⌝ }
+// The first "no" of questions 4 to 7, which ask for no row of the table; 0 where there is none.
+pub fn early_no(
+    participants: u64,
+    securities: u64,
+    phase: Phase,
+    participant: u64,
+    member: Ticket,
+) -> u64
+    ensures { λ r. ⌜ r ≡ firstNo (earlyQuestions participants securities phase participant member) ⌝ }
 {
-    if s.participants <= participant {
+    if participants <= participant {
         return 4;
     }
-    if s.securities <= member.security {
+    if securities <= member.security {
         return 5;
     }
-    let phase = s.phase;
     if !is_open(phase) {
         return 6;
     }
@@ -106,32 +114,33 @@ fn early_no(s: State, participant: u64, member: Member) -> u64
     0
 }
 
-// The first "no" from question 4 on; 0 where there is none.
-fn first_no(s: State, participant: u64, member: Member, force: TimeInForce) -> u64
-    requires { ⌜ sound (view s) ≡ true ⌝ }
-    ensures { λ r. ⌜ r ≡ orderNo (view s) participant member force ⌝ }
+// The first "no" of questions 8 and 12 to 14; 0 where there is none.
+pub fn later_no<'a>(
+    money: &'a [u64; 512],
+    pieces: &'a [u64; 512],
+    row: Security,
+    turnover: Turnover,
+    count: usize,
+    codes: u64,
+    participant: u64,
+    member: Ticket,
+    force: TimeInForce,
+) -> u64
+    requires { ⌜ Askable row codes participant member ⌝ }
+    ensures { λ r. ⌜ r ≡ firstNo (laterQuestions row turnover count codes participant member force (now (money .entry)) (now (pieces .entry))) ⌝ }
 {
-    let early = early_no(s, participant, member);
-    if 0 < early {
-        return early;
-    }
-    let table = s.table;
-    let line = table[member.security as usize];
-    if !price_sound(line, member.price) {
+    if !price_sound(row, member.price) {
         return 8;
     }
-    if !has_room(s, force) {
+    if !has_room(count, force) {
         return 12;
     }
-    if MAX_CODES <= s.codes {
+    if MAX_CODES <= codes {
         return 13;
     }
-    let entry = entry_of(s, participant, member);
-    if !covers(s, entry) {
+    let entry = entry_of(codes, participant, member);
+    if !covers(money, pieces, row, turnover, entry) {
         return 14;
-    }
-    if !is_fillable(s, force, entry) {
-        return 15;
     }
     0
 }
@@ -146,48 +155,84 @@ fn left_waiting(force: TimeInForce, rest: Order) -> u64
     }
 }
 
-// What is left of a kept order waits; of any other, its need is freed. The freeing stands in no branch, since a state
-// that goes through a call in a branch is copied: of a kept order it frees the need of no lots.
-fn finished(s: State, force: TimeInForce, rest: Order) -> State
-    requires { ⌜ Finishes (view s) force rest ⌝ }
-    ensures { λ r. ⌜ view r ≡ dayFinished force (view s) rest ⌝ }
+// The entry of an order whose questions are all answered "yes": its need is blocked and it is matched, and what is left
+// of it waits or is freed.
+pub fn enter(
+    b: OrderBook,
+    entry: Order,
+    force: TimeInForce,
+    row: Security,
+    money: &mut [u64; 512],
+    pieces: &mut [u64; 512],
+    trades: &mut [u64],
+) -> OrderBook
+    requires { ⌜ Enterable row b entry force (now money) (now pieces) (now trades) ⌝ }
+    ensures { λ r. ⌜ Enters row b entry force (now (money .entry)) (now (pieces .entry)) (now (trades .entry)) (now (money .exit)) (now (pieces .exit)) (now (trades .exit)) r ⌝ }
 {
+    let security = entry.security as usize;
+    let before = b.turnover[security];
+    block_need(money, pieces, row, before, entry);
+    let mut book = fill(b, entry, row, money, pieces, trades);
+    let rest = with_lots(entry, book.left);
     let waits = left_waiting(force, rest);
-    let dropped = with_lots(rest, rest.lots - waits);
-    let mut next = released(s, dropped);
+    let after = book.turnover[security];
+    // Of a kept order this frees the need of no lots.
+    free_need(
+        money,
+        pieces,
+        row,
+        after,
+        with_lots(rest, rest.lots - waits),
+    );
     if 0 < waits {
-        let count = next.count;
-        next.orders[count] = rest;
-        next.count = count + 1;
+        let count = book.count;
+        book.orders[count] = rest;
+        book.count = count + 1;
     }
+    book.left = waits;
+    book
+}
+
+// What of a state order entry goes by value.
+pub fn book_of(s: State) -> OrderBook
+    ensures { λ r. ⌜ r ≡ bookOf s ⌝ }
+{
+    let orders = s.orders;
+    let turnover = s.turnover;
+    OrderBook {
+        orders,
+        count: s.count,
+        codes: s.codes,
+        turnover,
+        filled: 0,
+        left: 0,
+        trades: 0,
+    }
+}
+
+// The state with these parts.
+pub fn state_of(s: State, money: [u64; 512], pieces: [u64; 512], book: OrderBook) -> State
+    ensures { λ r. ⌜ view r ≡ dayOf (rulesOf s) (s .phase) money pieces book ⌝ }
+{
+    let mut next = s;
+    next.money = money;
+    next.pieces = pieces;
+    let orders = book.orders;
+    next.orders = orders;
+    next.count = book.count;
+    next.codes = book.codes;
+    let turnover = book.turnover;
+    next.turnover = turnover;
     next
 }
 
-// The entry of an order from question 4 on: where all are answered "yes" it is admitted and matched, and what is left of
-// it waits or is freed. In a function of their own these steps would hand the state over in one copy more.
-pub fn enter(
-    s: State,
-    participant: u64,
-    member: Member,
-    force: TimeInForce,
-    trades: &mut [u64],
-) -> Outcome
-    requires { ⌜ (sound (view s) ≡ true) × (numbersPerTrade * s .count ≤ length (now trades)) ⌝ }
-    ensures { λ r. ⌜ Enters s participant member force (now (trades .entry)) (now (trades .exit)) r ⌝ }
+// That state, and what was answered.
+fn joined(s: State, money: [u64; 512], pieces: [u64; 512], book: OrderBook) -> Outcome
+    ensures { λ r. ⌜ Joins s money pieces book r ⌝ }
 {
-    let number = first_no(s, participant, member, force);
-    if 0 < number {
-        return refused(s, number);
-    }
-    let entry = entry_of(s, participant, member);
-    let filled = fill(admitted(s, entry), entry, trades);
-    let rest = with_lots(entry, filled.left);
-    let matched = filled.state;
-    let state = finished(matched, force, rest);
-    let waits = left_waiting(force, rest);
     Outcome {
-        answer: Answer::Done(entry.code, entry.lots - filled.left, waits, filled.trades),
-        state,
+        answer: Answer::Done(book.codes, book.filled, book.left, book.trades),
+        state: state_of(s, money, pieces, book),
     }
 }
 
@@ -207,13 +252,44 @@ pub fn enter_order(
     if trades.len() < LENT_AT_LEAST {
         return refused(s, 2);
     }
-    let member = Member {
+    let member = Ticket {
         side,
         security,
         price,
         lots,
     };
-    enter(s, participant, member, force, trades)
+    let phase = s.phase;
+    let early = early_no(s.participants, s.securities, phase, participant, member);
+    if 0 < early {
+        return refused(s, early);
+    }
+    let table = s.table;
+    let row = table[security as usize];
+    let turnovers = s.turnover;
+    let turnover = turnovers[security as usize];
+    let mut money = s.money;
+    let mut pieces = s.pieces;
+    let later = later_no(
+        &money,
+        &pieces,
+        row,
+        turnover,
+        s.count,
+        s.codes,
+        participant,
+        member,
+        force,
+    );
+    if 0 < later {
+        return refused(s, later);
+    }
+    let entry = entry_of(s.codes, participant, member);
+    let book = book_of(s);
+    if !is_fillable(book, force, entry) {
+        return refused(s, 15);
+    }
+    let after = enter(book, entry, force, row, &mut money, &mut pieces, trades);
+    joined(s, money, pieces, after)
 }
 
 fn is_own(participant: u64, code: u64, o: Order) -> bool
@@ -223,13 +299,14 @@ fn is_own(participant: u64, code: u64, o: Order) -> bool
 }
 
 // The first waiting order of the participant with that code.
-fn find(orders: [Order; 128], count: usize, participant: u64, code: u64) -> Found
-    requires { ⌜ count ≤ maxWaiting ⌝ }
-    ensures { λ r. ⌜ foundAt r ≡ placeOf participant code (firstOrders count orders) ⌝ }
+pub fn find(b: OrderBook, participant: u64, code: u64) -> Found
+    requires { ⌜ b .count ≤ maxWaiting ⌝ }
+    ensures { λ r. ⌜ foundAt r ≡ placeOf participant code (waitingIn b) ⌝ }
 {
+    let count = b.count;
     let mut i: usize = 0;
     while i < count {
-        let o = orders[i];
+        let o = b.orders[i];
         if is_own(participant, code, o) {
             return Found::At(i);
         }
@@ -246,13 +323,20 @@ pub fn cancel(s: State, participant: u64, code: u64) -> Outcome
     if s.participants <= participant {
         return refused(s, 4);
     }
-    let orders = s.orders;
-    let found = find(orders, s.count, participant, code);
+    let book = book_of(s);
+    let found = find(book, participant, code);
     let Found::At(at) = found else {
         return refused(s, 16);
     };
+    let orders = s.orders;
+    let o = orders[at];
+    let table = s.table;
+    let row = table[o.security as usize];
+    let mut money = s.money;
+    let mut pieces = s.pieces;
+    let after = left(book, at, row, &mut money, &mut pieces);
     Outcome {
         answer: Answer::Done(code, 0, 0, 0),
-        state: left(s, at),
+        state: state_of(s, money, pieces, after),
     }
 }

@@ -1,119 +1,158 @@
--- What the questions of a closing order let it do, and calls that are refused.
-use Prim.Native.Nat.{ℕ, zero, suc, _≤_, _<_}
+-- The questions of a closing order in the parts in which code asks them, and the call.
+use Prim.Native.Nat.{ℕ, zero, suc, _+_, _≤_, _<_}
+use native.Mathlib.Nat.{div-le-of-le-mul}
 use native.Mathlib.Omega.{arith}
-use mathlib.Core.Path.{_≡_, refl, ap, sym, _∙_}
+use mathlib.Core.Path.{_≡_, refl, ap, sym, _∙_, subst}
 use mathlib.Core.List.{List, [], _∷_, _++_}
-use mathlib.Core.Bool.{true}
+use mathlib.Core.Bool.{Bool, true, false}
 use lib.ListN.{length}
 use borrow.Author.Tests.{leb-true, ltb-true}
 use Rattle.market.specs.declared.Answer.the-variants.{Done, Refused}
-use Rattle.market.specs.declared.Outcome.{Outcome}
 use Rattle.market.specs.declared.Order.{Order}
+use Rattle.market.specs.declared.OrderBook.{OrderBook}
+use Rattle.market.specs.declared.Outcome.{Outcome}
+use Rattle.market.specs.declared.Phase.{Phase}
+use Rattle.market.specs.declared.Phase.the-variants.{Closing}
 use Rattle.market.specs.declared.Side.{Side}
 use Rattle.market.specs.declared.State.{State}
-use Rattle.market.specs.Limits.{maxCodes, maxLots, maxWaiting}
-use Rattle.market.specs.Tests.{known}
-use Rattle.market.specs.Day.{Day, Rules, turnoverAt, view, withWaiting}
-use Rattle.market.specs.Codes.{codeLeft}
-use Rattle.market.specs.Positions.{blockFor}
-use Rattle.market.specs.Sound.{hasTraded, isClosing, lotsSound, sound}
-use Rattle.market.specs.Calls.{Call, closingOf, closingOrder}
-use Rattle.market.specs.Questions.{Question, ask, closingQuestions, covered, firstNo, hasRoom, questions}
-use Rattle.market.specs.Entry.{admitted, placed}
+use Rattle.market.specs.Limits.{maxCodes, maxLots, maxPrice, maxSecurities}
+use Rattle.market.specs.declared.Rules.{Rules}
+use Rattle.market.specs.Day.{Day, Sized, dayOf, row, turnoverAt, view}
+use Rattle.market.specs.Needs.{closingPrice}
+use Rattle.market.specs.Sound.{sound}
+use Rattle.market.specs.Calls.{closingOf, closingOrder}
+use Rattle.market.specs.Questions.{Question, closingQuestions, firstBy, firstNo, questions}
+use Rattle.market.specs.Entry.{placed}
 use Rattle.market.specs.Step.{effect}
 use Rattle.market.specs.Contract.{Does}
+use Rattle.market.proofs.Logic.{within-high}
+use Rattle.market.proofs.Known.{closing-phase}
+use Rattle.market.proofs.Questions.{AllYes, all-yes}
+use Rattle.market.proofs.Step.{does-accept}
 use Rattle.market.proofs.View.{first-length}
-use Rattle.market.proofs.Logic.{both, within-high, within-low}
-use Rattle.market.proofs.Known.{OrderOk}
-use Rattle.market.proofs.Questions.{all-yes, yes}
-use Rattle.market.proofs.Step.{does-accept, does-refuse}
-use Rattle.conservation.specs.Book.{Book}
-use Rattle.conservation.proofs.Good.{Good}
-use Rattle.waiting.specs.Claims.{Admissible, Reckonable}
-use Rattle.waiting.proofs.Allowed.{good-admits, good-reckons}
+use Rattle.invariant.specs.Standing.{Standing}
+use Rattle.invariant.proofs.Sound.{sound-standing}
+use Rattle.waiting.specs.Claims.{Reckonable}
+use Rattle.waiting.proofs.Days.{covered-is, reckons}
+use Rattle.session.specs.Parts.{bookOf, rulesOf}
+use Rattle.session.specs.Placing.{Admits, PlacedAs, Placeable, Places, earlyClosing, laterClosing}
+use Rattle.session.proofs.Calling.{does-refused}
 
--- a call whose first "no" is this number, and which hands it back with the state
-pub does-refused : (s : State) (l : List ℕ) (c : Call) (number : ℕ) (r : Outcome)
-    → firstNo (questions (view s) (length l) c) ≡ number → (number ≡ 0 → ⊥)
-    → r ≡ record { answer = Refused number 0; state = s } → Does s l c r l
-does-refused s l c zero r first some e = absurd (some refl)
-does-refused s l c (suc n) r first some e = rw e (does-refuse s l c n first)
+-- a "no" hides what comes after it
+hides : (qs rs : List Question) → 0 < firstNo qs → firstNo (qs ++ rs) ≡ firstNo qs
+hides [] rs h = absurd (omega arith)
+hides (x ∷ qs) rs h = go (hides qs rs) (x .yes?) h
+  where
+    go : (0 < firstNo qs → firstNo (qs ++ rs) ≡ firstNo qs) → (k : Bool) → 0 < firstBy k (x .number) (firstNo qs)
+        → firstBy k (x .number) (firstNo (qs ++ rs)) ≡ firstBy k (x .number) (firstNo qs)
+    go rest true h = rest h
+    go rest false h = refl
 
--- questions 4 to 7 of a closing order are answered "yes"
-pub record FirstYes (d : Day) (p s n : ℕ) : Type 0 where
-  pub participant : known p (d .rules .participants) ≡ true
-  pub security : known s (d .rules .securities) ≡ true
-  pub phase : isClosing (d .phase) ≡ true
-  pub lots : lotsSound n ≡ true
+-- and where all are answered "yes", the first "no" comes after them
+passes : (qs rs : List Question) → AllYes qs → firstNo (qs ++ rs) ≡ firstNo rs
+passes [] rs y = refl
+passes (x ∷ qs) rs y = rw (y .0) (passes qs rs (y .1))
 
-module _ (d : Day) (p : ℕ) (x : Side) (s n : ℕ) where
-  -- the questions from 11 on
-  abbrev pub laterQuestions : List Question
-  laterQuestions =
-      ask 11 (hasTraded (turnoverAt (d .turnover) s)) ∷
-      ask 12 (hasRoom d) ∷
-      ask 13 (codeLeft d p) ∷
-      ask 14 (covered d (closingOf d p x s n)) ∷ []
+module _ (s : State) (size : Sized (view s)) (t : sound (view s) ≡ true) (p : ℕ) (x : Side) (c n : ℕ) where
+  abbrev r : Rules
+  r = rulesOf s
 
-  pub later-no : FirstYes d p s n → firstNo (closingQuestions d p x s n) ≡ firstNo laterQuestions
-  unfolding closingQuestions
-  later-no f = rw (f .participant, f .security, f .phase, f .lots)
+  abbrev o : Order
+  o = closingOf (view s) p x c n
 
-  order-ok : FirstYes d p s n → OrderOk (d .rules) (closingOf d p x s n)
-  order-ok f = record {
-    participant = ltb-true p (d .rules .participants) (f .participant);
-    security = ltb-true s (d .rules .securities) (f .security);
-    lots = within-low 1 maxLots n (f .lots);
-    top = within-high 1 maxLots n (f .lots);
-  }
+  abbrev early : List Question
+  early = earlyClosing (s .participants) (s .securities) (s .phase) p c n
 
-  module _ {U : Type 0} {r : Rules} {b : Book} (g : Good U r b d) where
-    -- question 14 can be asked where those before it are answered "yes"
-    pub closing-reckons : FirstYes d p s n → hasTraded (turnoverAt (d .turnover) s) ≡ true
-        → Reckonable d (closingOf d p x s n)
-    closing-reckons f traded = good-reckons g (closingOf d p x s n) (order-ok f) (both (f .phase) traded)
+  abbrev later : List Question
+  later = laterClosing (row r c) (turnoverAt (s .turnover) c) (s .count) (s .codes) o (s .money) (s .pieces)
 
-    -- and the order is admitted where all are
-    pub closing-admits : firstNo (closingQuestions d p x s n) ≡ 0 → Admissible d (closingOf d p x s n)
-    unfolding closingQuestions
-    closing-admits e =
-        let qs = closingQuestions d p x s n in
-        let y = all-yes qs tt e in
-        let f : FirstYes d p s n =
-        record { participant = yes 4 qs y; security = yes 5 qs y; phase = yes 6 qs y; lots = yes 7 qs y } in
-        good-admits g (closingOf d p x s n) (order-ok f) (both (f .phase) (yes 11 qs y)) (yes 14 qs y) (yes 13 qs y)
+  standing : Standing (view s)
+  standing = sound-standing (view s) size t
 
-  pub closing-room : firstNo (closingQuestions d p x s n) ≡ 0 → length (d .waiting) < maxWaiting
-  unfolding closingQuestions
-  closing-room e =
-      let qs = closingQuestions d p x s n in
-      ltb-true (length (d .waiting)) maxWaiting (yes 12 qs (all-yes qs tt e))
+  in-parts : firstNo (questions (view s) 0 (closingOrder p x c n)) ≡ firstNo (early ++ later)
+  unfolding questions closingQuestions
+  in-parts = rw (t, first-length (s .count) (s .orders), ← covered-is (view s) (row r c) o refl)
 
-pub codes-fit : {U : Type 0} {r : Rules} {b : Book} {d : Day} → Good U r b d → d .codes ≤ maxCodes
-codes-fit {U} {r} {b} {d} g = leb-true (d .codes) maxCodes (g .limit)
-
--- an admitted order finds as many orders waiting as before
-pub admitted-room : (s s′ : State) (o : Order) → view s′ ≡ admitted (view s) o
-    → length ((view s) .waiting) < maxWaiting → s′ .count < maxWaiting
-unfolding admitted blockFor
-admitted-room s s′ o e h =
-    omega (arith, ap (λ (d : Day). length (d .waiting)) e, first-length (s′ .count) (s′ .orders))
-
--- the calls
-module _ (s : State) (p : ℕ) (x : Side) (k n : ℕ) (sound-day : sound (view s) ≡ true) where
-  pub closing-refused : (number : ℕ) (r : Outcome) → number ≡ firstNo (closingQuestions (view s) p x k n)
-      → (number ≡ 0 → ⊥) → r ≡ record { answer = Refused number 0; state = s } → Does s [] (closingOrder p x k n) r []
+  from-four : firstNo (closingQuestions (view s) p x c n) ≡ firstNo (questions (view s) 0 (closingOrder p x c n))
   unfolding questions
-  closing-refused number r first some e = does-refused s [] (closingOrder p x k n) number r (rw sound-day (sym first)) some e
+  from-four = rw t
 
-  pub closing-accepted : (q s′ : State) (o : Order) → firstNo (closingQuestions (view s) p x k n) ≡ 0
-      → o ≡ closingOf (view s) p x k n → view q ≡ admitted (view s) o
-      → view s′ ≡ withWaiting (view q) ((view q) .waiting ++ (o ∷ []))
-      → Does s [] (closingOrder p x k n) (record { answer = Done (o .code) 0 n 0; state = s′ }) []
-  unfolding questions effect placed admitted blockFor
-  closing-accepted q s′ o all new blocked last =
-      does-accept s s′ [] [] (closingOrder p x k n) (Done (o .code) 0 n 0) (rw sound-day all) (rw new)
-      (last
-      ∙ ap (λ (d : Day). withWaiting d (d .waiting ++ (o ∷ []))) blocked
-      ∙ ap (λ (y : Order). withWaiting (admitted (view s) y) ((view s) .waiting ++ (y ∷ []))) new)
-      refl tt
+  pub refuse-early : (number : ℕ) (u : Outcome) → 0 < number → number ≡ firstNo early
+      → u ≡ record { answer = Refused number 0; state = s } → Does s [] (closingOrder p x c n) u []
+  refuse-early number u h e q =
+      does-refused s [] (closingOrder p x c n) number u (in-parts ∙ hides early later (omega arith) ∙ sym e)
+      (λ z. omega arith) q
+
+  pub given : s .codes ≤ maxCodes
+  given = leb-true (s .codes) maxCodes (standing .limit)
+
+  module _ (none : firstNo early ≡ 0) where
+    yeses : AllYes early
+    yeses = all-yes early tt none
+
+    pub in-table : c < maxSecurities
+    in-table = omega (arith, ltb-true c (s .securities) (yeses .1 .0), standing .backed .rulesOk .securities)
+
+    rest : firstNo (questions (view s) 0 (closingOrder p x c n)) ≡ firstNo later
+    rest = in-parts ∙ passes early later yeses
+
+    pub reckonable : {y : Order} → y ≡ o → Reckonable (row r c) (turnoverAt (s .turnover) c) y
+    reckonable e =
+        rw e
+        (reckons (view s) (row r c) o refl [] (standing .backed) (ltb-true p (s .participants) (yeses .0))
+        (ltb-true c (s .securities) (yeses .1 .0)) price (within-high 1 maxLots n (yeses .1 .1 .1 .0)))
+      where
+        price : closingPrice (turnoverAt (s .turnover) c) ≤ maxPrice
+        price =
+            unfold closingPrice in
+            (div-le-of-le-mul ((turnoverAt (s .turnover) c) .pieces)
+            (omega (arith, (standing .turnovers c (ltb-true c (s .securities) (yeses .1 .0))) .high)))
+
+    pub refuse-later : {y : Order} (number : ℕ) (u : Outcome) → y ≡ o → 0 < number
+        → number ≡ firstNo (laterClosing (row r c) (turnoverAt (s .turnover) c) (s .count) (s .codes) y (s .money) (s .pieces))
+        → u ≡ record { answer = Refused number 0; state = s } → Does s [] (closingOrder p x c n) u []
+    refuse-later number u ey h e q =
+        does-refused s [] (closingOrder p x c n) number u (rest ∙ sym (rw ey at e)) (λ z. omega arith) q
+
+    module _ {y : Order} {b : OrderBook} (ey : y ≡ o) (eb : b ≡ bookOf s)
+        (clear : firstNo (laterClosing (row r c) (turnoverAt (s .turnover) c) (s .count) (s .codes) y (s .money) (s .pieces)) ≡ 0)
+      where
+        shut : s .phase ≡ Closing
+        shut = closing-phase (s .phase) (yeses .1 .1 .0)
+
+        same : view s ≡ dayOf r Closing (s .money) (s .pieces) (bookOf s)
+        same = ap (λ (z : Phase). dayOf r z (s .money) (s .pieces) (bookOf s)) shut
+
+        asked : firstNo (questions (view s) 0 (closingOrder p x c n)) ≡ 0
+        asked = rest ∙ (rw ey at clear)
+
+        admits : Admits r (row r c) b y (s .money) (s .pieces)
+        admits =
+            rw (ey, eb)
+            (record {
+              row = refl;
+              standing = subst Standing same standing;
+              participant = p;
+              side = x;
+              security = c;
+              lots = n;
+              entry = refl;
+              asked = ap (λ (d : Day). firstNo (closingQuestions d p x c n)) (sym same) ∙ from-four ∙ asked;
+            })
+
+        pub placeable : Placeable (row r c) b y (s .money) (s .pieces)
+        placeable = record { rules = r; admits = admits }
+
+        pub does-place : {m k : List ℕ} (b′ : OrderBook) → Places (row r c) b y (s .money) (s .pieces) m k b′
+            → (s′ : State) → view s′ ≡ dayOf r Closing m k b′
+            → Does s [] (closingOrder p x c n)
+            (record { answer = Done (b′ .codes) (b′ .filled) (b′ .left) (b′ .trades); state = s′ }) []
+        unfolding effect
+        does-place {m} {k} b′ done s′ after =
+            let day : dayOf r Closing (s .money) (s .pieces) b ≡ view s =
+            ap (λ (z : OrderBook). dayOf r Closing (s .money) (s .pieces) z) eb ∙ sym same in
+            let z : PlacedAs (placed (view s) o) r m k b′ =
+            subst (λ (w : Order). PlacedAs (placed (view s) w) r m k b′) ey
+            (subst (λ (d : Day). PlacedAs (placed d y) r m k b′) day (done r admits)) in
+            does-accept s s′ [] [] (closingOrder p x c n) (Done (b′ .codes) (b′ .filled) (b′ .left) (b′ .trades)) asked (z .answer)
+            (after ∙ z .day) (unfold placed in refl) tt

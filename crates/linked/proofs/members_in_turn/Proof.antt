@@ -1,46 +1,77 @@
 -- `linked::members_in_turn` meets its contract. The loop's invariant: the group comes to what is done and the members
--- from here on.
-use Prim.Native.Nat.{ℕ, _+_, _*_, _-_, _≤_}
+-- from here on, with every number of currencies with which the day is sound.
+use Prim.Native.Nat.{ℕ, _+_, _*_, _-_, _≤_, _<_}
 use native.Mathlib.Omega.{arith}
-use mathlib.Core.Path.{_≡_, refl, ap, _∙_}
-use mathlib.Core.List.{List, []}
-use lib.ListN.{length, length-take, length-drop}
+use mathlib.Core.Path.{_≡_, refl, _∙_}
+use mathlib.Core.List.{[]}
+use lib.ListN.{length}
 use borrow.Author.Needs.{needs}
-use denote.Ref.{now}
-use Rattle.market.specs.declared.Answer.{Answer}
 use Rattle.market.specs.Limits.{lentAtLeast, maxLots, maxMembers, numbersPerTrade}
-use Rattle.market.specs.Answers.{numbersOf}
-use Rattle.linked.proofs.Lent.{returned}
+use Rattle.linked.specs.Group.{Ready}
 use Rattle.linked.proofs.Taken.{before-none}
-use Rattle.linked.proofs.Turns.{Turn, list-long, sums-fit, turn-long, turn-next, turn-room, turn-stops}
-use Rattle.linked.proofs.Turns.{turns-end}
+use Rattle.linked.proofs.Turns.{From, Turn, code-before, codes-fit, known, sums-fit, turn-enters, turn-long}
+use Rattle.linked.proofs.Turns.{turn-next, turn-room, turn-stops, turns-end}
 use Rattle.linked.proofs.members_in_turn.Statement.{statement}
 use Rattle.linked.proofs.members_in_turn.Tie as tie
 
 abbrev Inv-loop : tie.InvT-loop
-Inv-loop s participant count trades₀ members kept first present₀ filled₀ made₀ i₀ trades present filled made i =
-    Turn s participant count trades₀ members kept first trades present filled made i
+Inv-loop b participants securities phase participant count money₀ pieces₀ trades₀ table members kept kept-money kept-pieces
+    first book₀ filled₀ made₀ i₀ money pieces trades book filled made i =
+    (c : ℕ) → Ready participants securities phase table b count money₀ pieces₀ trades₀ c
+    → Turn (record {
+      participants = participants;
+      securities = securities;
+      phase = phase;
+      table = table;
+      currencies = c;
+      owner = participant;
+      count = count;
+      members = members;
+      book = b;
+      money = money₀;
+      pieces = pieces₀;
+      list = trades₀;
+    }) money pieces trades book filled made i
 
 abbrev μ-loop : tie.MeasureT-loop
-μ-loop s participant count trades₀ members kept first present₀ filled₀ made₀ i₀ trades present filled made i =
-    count - i
+μ-loop b participants securities phase participant count money₀ pieces₀ trades₀ table members kept kept-money kept-pieces
+    first book₀ filled₀ made₀ i₀ money pieces trades book filled made i = count - i
+
+-- what the group starts from, with c currencies
+abbrev from : tie.Start Inv-loop μ-loop → ℕ → From
+from b c =
+    let a = b .args in
+    record {
+      participants = a .participants;
+      securities = a .securities;
+      phase = a .phase;
+      table = a .t5;
+      currencies = c;
+      owner = a .participant;
+      count = a .count;
+      members = a .t8;
+      book = a .b;
+      money = a .money .now;
+      pieces = a .pieces .now;
+      list = a .trades .now;
+    }
 
 saved-requires : tie.Need-saved-requires Inv-loop μ-loop
-saved-requires c κs = c .before .before .pre .lent
+saved-requires c κs = c .before .before .pre .ready .lent
 
 add-first : tie.Need-add-first Inv-loop μ-loop
-add-first c = omega (arith, c .before .before .before .before .pre .codes)
+add-first c =
+    let b = c .before .before .before .before .before .before in
+    omega (arith, code-before (from b (b .pre .currencies)) (b .pre .ready))
 
 loop-holds : tie.Need-loop-holds Inv-loop μ-loop
-loop-holds c =
-    let b = c .before .before .before .before in
+loop-holds c = λ k ready.
+    let b = c .before .before .before .before .before .before in
     record {
-      ready = b .pre;
-      listed = b .good .1 .1 .1 .0 .1 .0 .1;
-      saved = c .before .saved .ensures;
-      code = refl;
+      ready = ready;
+      listed = b .good .1 .1 .1 .1 .1 .1 .1 .0 .1 .0 .1;
       turns = omega arith;
-      stays = b .pre .stays;
+      stays = ready .standing;
       trades = [];
       number = refl;
       space = omega arith;
@@ -49,32 +80,121 @@ loop-holds c =
       runs = before-none _;
     }
 
--- before a member there is room for as many trades as orders wait
-room : (c : tie.In-loop Inv-loop μ-loop)
-    → numbersPerTrade * (c .before .loop .made + c .before .loop .present .count) ≤ lentAtLeast
-room c = turn-room (c .before .loop .inv) (c .loop-test .taken)
+abbrev start : tie.At-loop Inv-loop μ-loop → tie.Start Inv-loop μ-loop
+start c = c .before .before .before .before .before .before .before
 
--- and for them the list is long enough
+-- a turn, with the currencies that the caller vouches for
+going : (c : tie.At-loop Inv-loop μ-loop) →
+    let l = c .loop in
+    Turn (from (start c) ((start c) .pre .currencies)) (l .money) (l .pieces) (l .trades) (l .book) (l .filled) (l .made) (l .i)
+going c = c .loop .inv ((start c) .pre .currencies) ((start c) .pre .ready)
+
+-- before a member there is room for as many trades as orders wait, and the list is long enough
+room : (c : tie.In-loop Inv-loop μ-loop)
+    → numbersPerTrade * (c .before .loop .made + c .before .loop .book .count) ≤ lentAtLeast
+room c = turn-room (going (c .before)) (c .loop-test .taken)
+
 lent : (c : tie.In-loop Inv-loop μ-loop)
-    → numbersPerTrade * (c .before .loop .made + c .before .loop .present .count) ≤ length (c .before .loop .trades)
+    → numbersPerTrade * (c .before .loop .made + c .before .loop .book .count) ≤ length (c .before .loop .trades)
 lent c =
-    let t = c .before .loop .inv in
+    let t = going (c .before) in
     omega (arith, room c, turn-long t, t .ready .lent)
+
+-- there are few members
+place : (c : tie.In-loop Inv-loop μ-loop) → c .before .loop .i < maxMembers
+place c = omega (arith, (start (c .before)) .pre .ready .most, c .loop-test .taken)
 
 mul-at : tie.Need-mul-at Inv-loop μ-loop
 mul-at c = omega (arith, room c)
 
 mul-member : tie.Need-mul-member Inv-loop μ-loop
-mul-member c = omega (arith, c .before .loop .inv .ready .most, c .loop-test .taken)
+mul-member c = omega (arith, place c)
 
 array-copy-out-member : tie.Need-array-copy-out-member Inv-loop μ-loop
-array-copy-out-member c = omega (arith, c .before .loop .inv .ready .most, c .loop-test .taken)
+array-copy-out-member c = place c
+
+first-no-requires : tie.Need-first-no-requires Inv-loop μ-loop
+first-no-requires c κs =
+    let k = c .before .before .before .before in
+    record { currencies = (start k) .pre .currencies; standing = (going k) .stays }
+
+add-told : tie.Need-add-told Inv-loop μ-loop
+add-told c = omega (arith, place (c .before .before .before .before))
+
+told-requires : tie.Need-told-requires Inv-loop μ-loop
+told-requires c κs = search needs
+
+enum-told : tie.Need-enum-told Inv-loop μ-loop
+enum-told c = search needs
+
+enum-told-2 : tie.Need-enum-told-2 Inv-loop μ-loop
+enum-told-2 c = search needs
+
+-- a turn, once the member's answer is told
+abbrev inside : tie.After-told Inv-loop μ-loop → tie.In-loop Inv-loop μ-loop
+inside c = c .before .before .before .before .before
+
+abbrev at : tie.In-loop Inv-loop μ-loop → ℕ
+at c = c .before .loop .made * 8
+
+here : (c : tie.In-loop Inv-loop μ-loop) → at c ≡ numbersPerTrade * c .before .loop .made
+here c = omega arith
+
+-- refused
+abbrev refused : tie.After-restore-arg Inv-loop μ-loop → tie.After-told Inv-loop μ-loop
+refused c = c .before .before .before
+
+restore-requires : tie.Need-restore-requires Inv-loop μ-loop
+restore-requires c κs =
+    let k = inside (refused c) in
+    (omega (arith, room k), omega (arith, lent k))
+
+same-length : tie.Need-same-length Inv-loop μ-loop
+same-length c =
+    let r = c .before .before in
+    r .restore .kept .1 .1 .0 ∙ turn-long (going ((inside (refused (r .before))) .before))
+
+returns : tie.Need-returns Inv-loop μ-loop
+returns c = λ q ready.
+    let r = c .before .before in
+    let e = r .before .before in
+    let d = refused (r .before) in
+    let k = inside d in
+    rw (r .restore .ensures)
+    (turn-stops (k .before .loop .inv q ready) _ (k .loop-test .taken) (at k) (here k) (d .before .first-no .result)
+    (d .before .first-no .ensures) (d .told .result) (d .told .ensures) _ _ (e .enum-told2 .given .1) _
+    (k .before .before .before .before .before .saved .ensures))
+
+-- accepted: its security is known, and a code is left
+abbrev Yes : Type 0
+Yes = tie.After-enum-told Inv-loop μ-loop
+
+abbrev taken : Yes → tie.After-told Inv-loop μ-loop
+taken c = c .before .before
+
+array-copy-out-row : tie.Need-array-copy-out-row Inv-loop μ-loop
+array-copy-out-row c =
+    let d = taken c in
+    let k = inside d in
+    known (going (k .before)) _ (k .loop-test .taken) (at k) (here k) (d .before .first-no .result)
+    (d .before .first-no .ensures) (d .told .result) (d .told .ensures) (c .enum-told .given .1)
+
+mul-row : tie.Need-mul-row Inv-loop μ-loop
+mul-row c = let h = array-copy-out-row c in omega (arith, h)
+
+entry-of-requires : tie.Need-entry-of-requires Inv-loop μ-loop
+entry-of-requires c κs =
+    let y = c .before in
+    let d = taken y in
+    let k = inside d in
+    codes-fit (going (k .before)) _ (k .loop-test .taken) (at k) (here k) (d .before .first-no .result)
+    (d .before .first-no .ensures) (d .told .result) (d .told .ensures) (y .enum-told .given .1)
 
 mul-enter : tie.Need-mul-enter Inv-loop μ-loop
-mul-enter c = omega (arith, room (c .before))
+mul-enter c = omega (arith, room (inside (taken (c .before .before .before .before))))
 
 sub-enter : tie.Need-sub-enter Inv-loop μ-loop
-sub-enter c = omega (arith, lent (c .before))
+sub-enter c = omega (arith, lent (inside (taken (c .before .before .before .before))))
 
 part-enter-start : tie.Need-part-enter-start Inv-loop μ-loop
 part-enter-start c = sub-enter c
@@ -84,107 +204,55 @@ part-enter-end c = search needs
 
 enter-requires : tie.Need-enter-requires Inv-loop μ-loop
 enter-requires c κs =
-    let k = c .before .before in
-    (k .before .loop .inv .stays, simp (length-take, length-drop) (omega (arith, lent k)))
+    let y = c .before .before .before .before .before in
+    let d = taken y in
+    let k = inside d in
+    turn-enters (going (k .before)) _ (k .loop-test .taken) (at k) (here k) (d .before .first-no .result)
+    (d .before .first-no .ensures) (d .told .result) (d .told .ensures) (y .enum-told .given .1)
+    (c .before .before .before .entry-of .ensures)
 
-enum-known-answer : tie.Need-enum-known-answer Inv-loop μ-loop
-enum-known-answer c = search needs
-
-enum-told : tie.Need-enum-told Inv-loop μ-loop
-enum-told c = search needs
-
--- a turn, from the member's entry on
-abbrev inside : tie.After-enter Inv-loop μ-loop → tie.In-loop Inv-loop μ-loop
-inside c = c .before .before .before
-
-abbrev at : tie.After-enter Inv-loop μ-loop → ℕ
-at c = (inside c) .before .loop .made * 8
-
-here : (c : tie.After-enter Inv-loop μ-loop) → at c ≡ numbersPerTrade * (inside c) .before .loop .made
-here c = omega arith
-
-abbrev part : tie.After-enter Inv-loop μ-loop → List ℕ
-part c = c .enter .last .1 .1 .1 .1 .0
-
-long : (c : tie.After-enter Inv-loop μ-loop) →
-    let b : tie.Start Inv-loop μ-loop = (inside c) .before .before .before .before .before .before in
-    length (returned ((inside c) .before .loop .trades) (at c) (part c)) ≡ length (now (b .args .trades))
-long c =
-    let k = inside c in
-    list-long (k .before .loop .inv) _ (k .loop-test .taken) (at c) (here c) (c .enter .result) (part c)
-    (c .enter .ensures)
-
-restore-requires : tie.Need-restore-requires Inv-loop μ-loop
-restore-requires c κs =
-    let e = c .before .before .before .before .before in
-    let t = (inside e) .before .loop .inv in (
-      omega (arith, room (inside e)),
-      omega (arith, room (inside e), long e, t .ready .lent),
-    )
-
-number-of-requires : tie.Need-number-of-requires Inv-loop μ-loop
-number-of-requires c κs = tt
-
-add-t35 : tie.Need-add-t35 Inv-loop μ-loop
-add-t35 c =
-    let k = inside (c .before .before .before .before .before .before .before .before .before) in
-    omega (arith, k .before .loop .inv .ready .most, k .loop-test .taken)
-
-same-length : tie.Need-same-length Inv-loop μ-loop
-same-length c =
-    let e = c .before .before .before .before .before .before .before .before .before in
-    c .before .before .before .restore .kept .1 .1 .0 ∙ long e
-
-returns : tie.Need-returns Inv-loop μ-loop
-returns c =
-    let told = c .before .before .before .before .before in
-    let e = told .before .before .before .before in
-    let k = inside e in
-    let number : c .number-of .result ≡ told .enum-told .given .0 .0 =
-    c .number-of .ensures ∙ ap (λ (a : Answer). (numbersOf a) .refusal) (told .enum-told .given .1) in
-    rw (number, c .before .before .before .restore .ensures)
-    (turn-stops (k .before .loop .inv) _ (k .loop-test .taken) (at e) (here e) (e .enter .result) (part e)
-    (e .enter .ensures) _ _ (told .enum-told .given .1))
-
--- with an accepted member's lots and trades the sums stay small
-sums : (c : tie.After-known-told Inv-loop μ-loop) →
-    let e : tie.After-enter Inv-loop μ-loop = c .before .before .before .before .before in
-    ((inside e) .before .loop .filled + c .before .answer .given .0 .1 .0 ≤ maxLots * maxMembers)
-    × (numbersPerTrade * ((inside e) .before .loop .made + c .before .answer .given .0 .1 .1 .1 .0) ≤ lentAtLeast)
+-- with the member's lots and trades the sums stay small
+sums : (c : tie.After-enter Inv-loop μ-loop) →
+    let l = (inside (taken (c .before .before .before .before .before .before))) .before .loop in
+    (l .filled + c .enter .result .filled ≤ maxLots * maxMembers)
+    × (numbersPerTrade * (l .made + c .enter .result .trades) ≤ lentAtLeast)
 sums c =
-    let e = c .before .before .before .before .before in
-    let k = inside e in
-    sums-fit (k .before .loop .inv) _ (k .loop-test .taken) (at e) (here e) (e .enter .result) (part e)
-    (e .enter .ensures) _ _ _ _ (c .before .answer .given .1)
+    let y = c .before .before .before .before .before .before in
+    let d = taken y in
+    let k = inside d in
+    sums-fit (going (k .before)) _ (k .loop-test .taken) (at k) (here k) (d .before .first-no .result)
+    (d .before .first-no .ensures) (d .told .result) (d .told .ensures) (y .enum-told .given .1)
+    (c .before .before .before .before .entry-of .ensures) (c .enter .ensures)
 
 add-filled : tie.Need-add-filled Inv-loop μ-loop
-add-filled c = omega (arith, sums c)
+add-filled c = omega (arith, sums (c .before .before .before))
 
 add-made : tie.Need-add-made Inv-loop μ-loop
-add-made c = omega (arith, sums c)
+add-made c = omega (arith, sums (c .before .before .before))
 
 add-i : tie.Need-add-i Inv-loop μ-loop
-add-i c =
-    let k = inside (c .before .before .before .before .before .before) in
-    omega (arith, k .before .loop .inv .ready .most, k .loop-test .taken)
+add-i c = omega (arith, place (inside (taken (c .before .before .before .before .before .before .before .before .before))))
 
 loop-less : tie.Need-loop-less Inv-loop μ-loop
 loop-less c =
-    let k = inside (c .before .before .before .before .before .before) in
+    let k = inside (taken (c .before .before .before .before .before .before .before .before .before)) in
     omega (arith, k .loop-test .taken)
 
 loop-again : tie.Need-loop-again Inv-loop μ-loop
-loop-again c =
-    let e = c .before .before .before .before .before .before in
-    let k = inside e in
-    turn-next (k .before .loop .inv) _ (k .loop-test .taken) (at e) (here e) (e .enter .result) (part e)
-    (e .enter .ensures) _ _ _ _ (c .before .before .answer .given .1)
+loop-again c = λ q ready.
+    let e = c .before .before .before in
+    let y = e .before .before .before .before .before .before in
+    let d = taken y in
+    let k = inside d in
+    turn-next (k .before .loop .inv q ready) _ (k .loop-test .taken) (at k) (here k) (d .before .first-no .result)
+    (d .before .first-no .ensures) (d .told .result) (d .told .ensures) (y .enum-told .given .1)
+    (e .before .before .before .before .entry-of .ensures) (e .enter .ensures)
 
 same-length-2 : tie.Need-same-length-2 Inv-loop μ-loop
-same-length-2 c = turn-long (c .before .loop .inv)
+same-length-2 c = turn-long (going (c .before))
 
 returns-2 : tie.Need-returns-2 Inv-loop μ-loop
-returns-2 c = turns-end (c .before .loop .inv) (c .loop-test .left)
+returns-2 c = λ q ready. turns-end (c .before .loop .inv q ready) (c .loop-test .left) _ refl
 
 pub members-in-turn-spec : {M : Type 1} → statement M
 members-in-turn-spec =
@@ -198,18 +266,22 @@ members-in-turn-spec =
     mul-at
     mul-member
     array-copy-out-member
+    first-no-requires
+    add-told
+    told-requires
+    enum-told
+    enum-told-2
+    restore-requires
+    same-length
+    returns
+    mul-row
+    array-copy-out-row
+    entry-of-requires
     mul-enter
     sub-enter
     part-enter-start
     part-enter-end
     enter-requires
-    enum-known-answer
-    enum-told
-    restore-requires
-    number-of-requires
-    add-t35
-    same-length
-    returns
     add-filled
     add-made
     add-i
