@@ -1,13 +1,26 @@
 // A trading day from a day file: its commands are carried out one after another, and what they print is put into a lent
 // buffer.
-use lines::Command;
+use calls::carry_out;
+use lines::Line;
 use market::Answer;
+use market::Call;
 use market::MAX_SECURITIES;
-use market::Member;
+use market::Order;
+use market::OrderBook;
 use market::Outcome;
+use market::Phase;
+use market::Rules;
 use market::Security;
 use market::State;
-use market::refused;
+use market::TimeInForce;
+use market::Turnover;
+use market::book_of;
+use market::rules_of;
+use market::state_of;
+use orders::enter;
+use orders::entry_of;
+use orders::is_fillable;
+use orders::order_no;
 use printing::put_answer;
 use printing::put_positions;
 use printing::put_trades;
@@ -32,6 +45,9 @@ ghost use Rattle.dayfile.specs.Run.{Begins, Continues, Fills, Going, Pri
 pub const MALFORMED: u64 = 19;
 
 const TOO_LONG: u64 = 20;
+
+// Question 15.
+const UNFILLABLE: u64 = 15;
 
 const MAX_TEXT: usize = 65536;
 
@@ -63,47 +79,6 @@ struct Headed {
     at: usize,
 }
 
-// Carries a command out. The trades stand from the start of the lent list on.
-fn carry_out(s: State, command: Command, members: [Member; 8], trades: &mut [u64]) -> Outcome
-    requires { ⌜ (sound (view s) ≡ true) × (length (now trades) ≡ lentAtLeast) ⌝ }
-    ensures { λ r. ⌜ Carries (carried (view s) command members) (now (trades .entry)) r (now (trades .exit)) ⌝ }
-{
-    match command {
-        Command::IncreaseMoney(p, c, amount) => reserves::increase_money(s, p, c, amount),
-        Command::DecreaseMoney(p, c, amount) => reserves::decrease_money(s, p, c, amount),
-        Command::IncreasePieces(p, security, amount) => {
-            reserves::increase_pieces(s, p, security, amount)
-        }
-        Command::DecreasePieces(p, security, amount) => {
-            reserves::decrease_pieces(s, p, security, amount)
-        }
-        Command::Order(p, order, force) => {
-            let side = order.side;
-            orders::enter_order(
-                s,
-                p,
-                side,
-                order.security,
-                order.price,
-                order.lots,
-                force,
-                trades,
-            )
-        }
-        Command::Cancel(p, code) => orders::cancel(s, p, code),
-        Command::Group(p, n) => linked::enter_group(s, p, n, members, trades),
-        Command::StartClosing => session::start_closing(s),
-        Command::ClosingOrder(p, side, security, lots) => {
-            session::enter_closing_order(s, p, side, security, lots)
-        }
-        Command::EndSession => session::end_session(s, trades),
-        Command::Heading(_, _, _) => refused(s, MALFORMED),
-        Command::Security(_, _, _) => refused(s, MALFORMED),
-        Command::Member(_) => refused(s, MALFORMED),
-        Command::Malformed => refused(s, MALFORMED),
-    }
-}
-
 // A command's answer and its trades, from place `at` of the buffer on.
 fn put_command(out: &mut [u8], at: usize, line: u64, answer: Answer, trades: &[u64]) -> usize
     requires { ⌜ at + room ≤ length (now out) ⌝ }
@@ -118,79 +93,177 @@ fn put_command(out: &mut [u8], at: usize, line: u64, answer: Answer, trades: &[u
     }
 }
 
-// Carries the next command of a run out, and puts what it prints into the buffer.
-fn next_command(text: &[u8], r: Run, trades: &mut [u64], out: &mut [u8]) -> Run
-    requires { ⌜ Going (now text) r ⌝ }
-    requires { ⌜ r .over ≡ false ⌝ }
-    requires { ⌜ r .at < length (now text) ⌝ }
-    requires { ⌜ r .filled + room ≤ length (now out) ⌝ }
-    requires { ⌜ length (now trades) ≡ lentAtLeast ⌝ }
-    ensures { λ q. ⌜ Continues (now (text .entry)) r (now (out .entry)) q (now (out .exit)) ⌝ }
-    ensures { λ _. ⌜ length (now (trades .exit)) ≡ lentAtLeast ⌝ }
-{
-    let reading = command_at(text, r.at);
-    let command = reading.command;
-    let members = reading.members;
-    let s = r.state;
-    let outcome = carry_out(s, command, members, trades);
-    let answer = outcome.answer;
-    let filled = put_command(out, r.filled, r.line, answer, trades);
-    let state = outcome.state;
-    Run {
-        state,
-        at: reading.next,
-        line: r.line + reading.lines,
+// What of a run changes from command to command besides positions: order book and phase, the place where the text goes
+// on and the number of its line there, and how much of the buffer is filled.
+struct Stand {
+    book: OrderBook,
+    phase: Phase,
+    at: usize,
+    line: u64,
+    filled: usize,
+}
+
+// What comes of a line before any waiting order is read.
+enum Asked {
+    // Refused with this number.
+    No(u64),
+    // An order whose questions 4 to 14 are answered "yes", the row of its security, and how it enters.
+    Enters(Order, Security, TimeInForce),
+    // Any other call.
+    Other(Call),
+}
+
+// A malformed line, or one out of its place, is refused; so is an order by its questions 4 to 14.
+fn asked<'a>(
+    says: Line,
+    rules: Rules,
+    phase: Phase,
+    turnovers: [Turnover; 16],
+    count: usize,
+    codes: u64,
+    money: &'a [u64; 512],
+    pieces: &'a [u64; 512],
+) -> Asked {
+    let Line::Call(call) = says else {
+        return Asked::No(MALFORMED);
+    };
+    let Call::Order(participant, ticket, force) = call else {
+        return Asked::Other(call);
+    };
+    let number = order_no(
+        rules,
+        phase,
+        turnovers,
+        count,
+        codes,
+        money,
+        pieces,
+        participant,
+        ticket,
+        force,
+    );
+    if 0 < number {
+        return Asked::No(number);
+    }
+    let table = rules.table;
+    let row = table[ticket.security as usize];
+    let entry = entry_of(codes, participant, ticket);
+    Asked::Enters(entry, row, force)
+}
+
+// Are there a command and room for it?
+fn goes_on(length: usize, at: usize, size: usize, filled: usize) -> bool {
+    at < length && filled <= size - ROOM
+}
+
+// The commands of a text one after another, as long as the buffer has room. An order, the commonest call, is entered
+// here: through `carry_out` the waiting orders would be copied twice as often, and for a refusal too. So this function
+// is longer than others.
+fn commands(
+    text: &[u8],
+    from: Stand,
+    rules: Rules,
+    money: &mut [u64; 512],
+    pieces: &mut [u64; 512],
+    out: &mut [u8],
+) -> Stand {
+    let mut trades = [0u64; 1088];
+    let mut book = from.book;
+    let mut phase = from.phase;
+    let mut at = from.at;
+    let mut line = from.line;
+    let mut filled = from.filled;
+    while goes_on(text.len(), at, out.len(), filled) {
+        let reading = command_at(text, at);
+        let says = reading.says;
+        let turnovers = book.turnover;
+        let verdict = asked(
+            says,
+            rules,
+            phase,
+            turnovers,
+            book.count,
+            book.codes,
+            &*money,
+            &*pieces,
+        );
+        let mut answer = Answer::Refused(UNFILLABLE, 0);
+        match verdict {
+            Asked::No(number) => {
+                answer = Answer::Refused(number, 0);
+            }
+            Asked::Enters(entry, row, force) => {
+                if is_fillable(book, force, entry) {
+                    book = enter(book, entry, force, row, money, pieces, &mut trades);
+                    answer = Answer::Done(book.codes, book.filled, book.left, book.trades);
+                }
+            }
+            Asked::Other(call) => {
+                let members = reading.members;
+                let carried = carry_out(
+                    book,
+                    rules,
+                    phase,
+                    call,
+                    members,
+                    money,
+                    pieces,
+                    &mut trades,
+                );
+                answer = carried.answer;
+                phase = carried.phase;
+                book = carried.book;
+            }
+        }
+        filled = put_command(out, filled, line, answer, &trades);
+        at = reading.next;
+        line = line + reading.lines;
+    }
+    Stand {
+        book,
+        phase,
+        at,
+        line,
         filled,
-        over: false,
     }
-}
-
-// After all commands come the positions.
-fn last_lines(text: &[u8], r: Run, out: &mut [u8]) -> Run
-    requires { ⌜ Going (now text) r ⌝ }
-    requires { ⌜ r .over ≡ false ⌝ }
-    requires { ⌜ r .at ≡ length (now text) ⌝ }
-    requires { ⌜ r .filled + room ≤ length (now out) ⌝ }
-    ensures { λ q. ⌜ Continues (now (text .entry)) r (now (out .entry)) q (now (out .exit)) ⌝ }
-{
-    let s = r.state;
-    let mut last = r;
-    last.filled = put_positions(out, r.filled, s);
-    last.over = true;
-    last
-}
-
-// The next command, or after the last one the positions.
-fn advance(text: &[u8], r: Run, trades: &mut [u64], out: &mut [u8]) -> Run
-    requires { ⌜ Going (now text) r ⌝ }
-    requires { ⌜ r .over ≡ false ⌝ }
-    requires { ⌜ r .filled + room ≤ length (now out) ⌝ }
-    requires { ⌜ length (now trades) ≡ lentAtLeast ⌝ }
-    ensures { λ q. ⌜ Continues (now (text .entry)) r (now (out .entry)) q (now (out .exit)) ⌝ }
-    ensures { λ _. ⌜ length (now (trades .exit)) ≡ lentAtLeast ⌝ }
-{
-    if r.at < text.len() {
-        return next_command(text, r, trades, out);
-    }
-    last_lines(text, r, out)
 }
 
 // Goes on with a run until it is over or the buffer has no room for another command.
-pub fn resume(text: &[u8], from: Run, out: &mut [u8]) -> Run
-    requires { ⌜ Going (now text) from ⌝ }
-    requires { ⌜ from .over ≡ false ⌝ }
-    requires { ⌜ from .filled + room ≤ length (now out) ⌝ }
-    ensures { λ r. ⌜ Fills (now (text .entry)) from (now (out .entry)) r (now (out .exit)) ⌝ }
-{
-    let mut trades = [0u64; 1088];
-    let mut r = advance(text, from, &mut trades, out);
-    while !r.over {
-        if out.len() - ROOM < r.filled {
-            return r;
-        }
-        r = advance(text, r, &mut trades, out);
+pub fn resume(text: &[u8], from: Run, out: &mut [u8]) -> Run {
+    let s = from.state;
+    let rules = rules_of(s);
+    let mut money = s.money;
+    let mut pieces = s.pieces;
+    let first = Stand {
+        book: book_of(s),
+        phase: s.phase,
+        at: from.at,
+        line: from.line,
+        filled: from.filled,
+    };
+    let last = commands(text, first, rules, &mut money, &mut pieces, out);
+    let mut filled = last.filled;
+    let over = text.len() <= last.at && filled <= out.len() - ROOM;
+    if over {
+        filled = put_positions(
+            out,
+            filled,
+            s.participants,
+            s.currencies,
+            s.securities,
+            &money,
+            &pieces,
+        );
     }
-    r
+    let phase = last.phase;
+    let book = last.book;
+    Run {
+        state: state_of(s, phase, money, pieces, book),
+        at: last.at,
+        line: last.line,
+        filled,
+        over,
+    }
 }
 
 // `S` lines whose first fault stands on this line.
@@ -218,8 +291,8 @@ fn securities_at(text: &[u8], from: usize, n: u64) -> Securities
             return wrong_securities(i + 2, table, at);
         }
         let reading = command_at(text, at);
-        let command = reading.command;
-        let Command::Security(currency, lot, step) = command else {
+        let says = reading.says;
+        let Line::Security(currency, lot, step) = says else {
             return wrong_securities(i + 2, table, at);
         };
         if i < MAX_SECURITIES {
@@ -266,8 +339,8 @@ fn heading_of(text: &[u8]) -> Headed
     ensures { λ r. ⌜ ReadsHeading (now (text .entry)) r ⌝ }
 {
     let reading = command_at(text, 0);
-    let command = reading.command;
-    let Command::Heading(participants, currencies, securities) = command else {
+    let says = reading.says;
+    let Line::Heading(participants, currencies, securities) = says else {
         return wrong_heading(1);
     };
     let lines = securities_at(text, reading.next, securities);

@@ -1,10 +1,9 @@
 -- What holds at the head of the pairing loop: from here the definition comes to the same as from the start.
-use Prim.Native.Nat.{ℕ, _+_, _*_, _-_, _≤_, _<_, min}
+use Prim.Native.Nat.{ℕ, _+_, _*_, _≤_, _<_, min}
 use native.Mathlib.Nat.{mul-le-mul-left, mul-le-mul-right}
 use native.Mathlib.Omega.{arith}
 use mathlib.Core.Path.{_≡_, refl, ap, sym, _∙_, subst}
 use mathlib.Core.List.{List, [], _∷_}
-use mathlib.Core.Bool.{true}
 use lib.ListN.{length, take-append-drop}
 use borrow.Author.Tests.{leb-true}
 use Rattle.market.specs.declared.Order.{Order}
@@ -18,20 +17,20 @@ use Rattle.market.specs.declared.Rules.{Rules}
 use Rattle.market.specs.Day.{Asset, Day, Money, Pieces, dayOf, row, noOrder, orderAt, turnoverAt}
 use Rattle.market.specs.Needs.{limitOf, needAt, piecesOf, sumFor}
 use Rattle.market.specs.Positions.{settle}
-use Rattle.market.specs.TradeList.{Trade, lotsOf, tradeOf}
-use Rattle.market.specs.Matching.{Best, best, found, lotsAt, none}
-use Rattle.market.specs.Closing.{Paired, Terms, counterparty, firstBuy, firstSell, followed, pairOne, pairedOff, pairs}
+use Rattle.market.specs.TradeList.{lotsOf, tradeOf}
+use Rattle.market.specs.Matching.{Best, found, none}
+use Rattle.market.specs.Closing.{Paired, Terms, counterparty, firstBuy, firstSell, pairedOff, pairs}
 use Rattle.market.specs.Closing.{takeBoth}
 use Rattle.market.proofs.Lists.{All, all-at, all-map, sum-remove}
 use Rattle.market.proofs.Known.{OrderOk}
 use Rattle.market.proofs.Matching.{Chosen, best-chosen}
-use Rattle.market.proofs.Pairs.{Both, Meeting, meet-apart, meets, pairs-no-buy, pairs-no-sell, pairs-one}
+use Rattle.market.proofs.Pairs.{Meeting, meet-apart, meets, pairs-no-buy, pairs-no-sell, pairs-one}
 use Rattle.market.proofs.View.{first-length}
 use Rattle.invariant.specs.Standing.{KindOk, Standing, needsOf}
-use Rattle.invariant.proofs.Pairing.{Fair, FairTo, limit-fits, pair-buy, pair-one, pair-sell, pair-standing, pair-two}
+use Rattle.invariant.proofs.Pairing.{Fair, FairTo, limit-fits, pair-standing, pair-two}
 use Rattle.matching.specs.Execution.{Countable, Executable, Executes}
 use Rattle.matching.specs.Orders.{waitingIn}
-use Rattle.matching.specs.Written.{tradeAs, tradeWritten}
+use Rattle.matching.specs.Written.{tradeWritten}
 use Rattle.matching.proofs.Ready.{settled, settles}
 use Rattle.matching.proofs.Writing.{written-length, written-next, writtenFrom}
 use Rattle.session.specs.Pairing.{Counts, Meets, PairedAs}

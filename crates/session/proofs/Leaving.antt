@@ -1,18 +1,17 @@
 -- The loop that frees all needs: from here the definition comes to the same as from the start.
-use Prim.Native.Nat.{ℕ, zero, suc, _+_, _-_, _≤_, _<_}
+use Prim.Native.Nat.{ℕ, suc, _+_, _-_, _≤_, _<_}
 use native.Mathlib.Omega.{arith}
 use mathlib.Core.Path.{_≡_, refl, ap, sym, _∙_, subst}
 use mathlib.Core.List.{List, [], _∷_}
 use lib.ListN.{length, drop, length-drop}
-use lib.Seq.{drop-drop, getD-drop}
+use lib.Seq.{drop-drop, drop-length, getD-drop}
 use Rattle.market.specs.declared.Order.{Order}
 use Rattle.market.specs.declared.OrderBook.{OrderBook}
 use Rattle.market.specs.declared.Phase.{Phase}
-use Rattle.market.specs.declared.Security.{Security}
 use Rattle.market.specs.Limits.{maxSecurities, maxWaiting}
 use Rattle.market.specs.Tests.{removeAt}
 use Rattle.market.specs.declared.Rules.{Rules}
-use Rattle.market.specs.Day.{Day, dayOf, row, noOrder, noSecurity, orderAt, turnoverAt, withPhase, withWaiting}
+use Rattle.market.specs.Day.{Day, dayOf, row, noOrder, orderAt, turnoverAt, withPhase, withWaiting}
 use Rattle.market.specs.Needs.{needAt}
 use Rattle.market.specs.Positions.{release, releaseFor}
 use Rattle.market.specs.Waiting.{allLeave, leave, leaveFirst}
@@ -53,10 +52,6 @@ remove-first : (w : List Order) → removeAt w 0 ≡ drop 1 w
 remove-first [] = refl
 remove-first (o ∷ w) = refl
 
-drop-all : {A : Type 0} (l : List A) → drop (length l) l ≡ []
-drop-all [] = refl
-drop-all (x ∷ l) = drop-all l
-
 module _ {r : Rules} {x : Phase} {b : OrderBook} {m₀ k₀ m k : List ℕ} {i : ℕ} (g : Leaving r x b m₀ k₀ m k i) where
   abbrev d : Day
   d = restDay r x m k b i
@@ -69,7 +64,7 @@ module _ {r : Rules} {x : Phase} {b : OrderBook} {m₀ k₀ m k : List ℕ} {i :
   leaving-ends h y =
       let all : i ≡ length (waitingIn b) = omega (arith, g .passed, first-length (b .count) (b .orders)) in
       let none : b .count - i ≡ 0 = omega arith in
-      let empty : drop i (waitingIn b) ≡ [] = ap (λ (n : ℕ). drop n (waitingIn b)) all ∙ drop-all (waitingIn b) in
+      let empty : drop i (waitingIn b) ≡ [] = ap (λ (n : ℕ). drop n (waitingIn b)) all ∙ drop-length (waitingIn b) in
       ap (λ (e : Day). withPhase e y)
       (ap (withWaiting (dayOf r x m k b)) (sym empty)
       ∙ sym (ap (λ (n : ℕ). leaveFirst n d) none)

@@ -5,26 +5,25 @@ use native.Mathlib.Numerals.{add-one}
 use native.Mathlib.Omega.{arith}
 use mathlib.Core.Path.{_≡_, refl, ap, sym, _∙_, subst}
 use mathlib.Core.List.{List, [], _∷_, _++_}
-use lib.ListN.{getD, length, length-append, take-append-drop}
+use lib.ListN.{length, length-append, take-append-drop}
 use Rattle.market.specs.declared.Kind.the-variants as kind
 use Rattle.market.specs.declared.OrderBook.{OrderBook}
 use Rattle.market.specs.declared.Phase.the-variants.{Closed, Closing}
 use Rattle.market.specs.declared.Security.{Security}
-use Rattle.market.specs.Limits.{maxSecurities, maxWaiting, numbersPerTrade}
+use Rattle.market.specs.Limits.{maxWaiting, numbersPerTrade}
 use Rattle.market.specs.declared.Rules.{Rules}
-use Rattle.market.specs.Day.{Day, dayOf, row, noSecurity, turnoverAt}
+use Rattle.market.specs.Day.{Day, dayOf, row, turnoverAt}
 use Rattle.market.specs.Needs.{closingPrice}
 use Rattle.market.specs.Waiting.{allLeave}
-use Rattle.market.specs.TradeList.{Trade, lotsOf, written}
+use Rattle.market.specs.TradeList.{Trade, lotsOf}
 use Rattle.market.specs.Closing.{Paired, Terms, closingTerms, endResult, followed, pairs, pairsFrom}
 use Rattle.market.proofs.Lists.{sum-append}
-use Rattle.market.proofs.View.{first-length}
 use Rattle.invariant.specs.Standing.{Standing}
 use Rattle.invariant.proofs.Pairing.{Fair, closing-fair}
 use Rattle.matching.specs.Written.{tradeWritten}
 use Rattle.matching.proofs.Writing.{written-length, written-next, writtenFrom}
-use Rattle.session.specs.Leaving.{AllLeft, Leavable, emptied}
-use Rattle.session.specs.Pairing.{Closes, Counts, EndsAs, Meets, PairedAs, Pairs, cleared, closingFrom}
+use Rattle.session.specs.Leaving.{AllLeft, emptied}
+use Rattle.session.specs.Pairing.{Closes, Counts, EndsAs, Meets, PairedAs, cleared, closingFrom}
 
 -- one list of trades written after another
 written-append : (ts us : List Trade) (n : ℕ) (v : List ℕ) → numbersPerTrade * (n + length ts) ≤ length v

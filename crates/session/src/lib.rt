@@ -3,6 +3,7 @@
 use amounts::closing_price;
 use amounts::within;
 use market::Answer;
+use market::Carried;
 use market::Kind;
 use market::LENT_AT_LEAST;
 use market::MAX_CODES;
@@ -10,16 +11,14 @@ use market::MAX_LOTS;
 use market::MAX_WAITING;
 use market::Order;
 use market::OrderBook;
-use market::Outcome;
 use market::Phase;
+use market::Rules;
 use market::Security;
 use market::Side;
-use market::State;
 use market::Turnover;
-use market::accepted;
+use market::declined;
 use market::is_closing;
 use market::is_open;
-use market::refused;
 use matching::Found;
 use matching::execute;
 use matching::lesser;
@@ -28,22 +27,18 @@ use matching::with_lots;
 use waiting::block_need;
 use waiting::covers;
 use waiting::free_need;
+ghost use Prim.Native.Nat.{_≤_};
 ghost use mathlib.Core.Path.{_≡_};
 ghost use mathlib.Core.List.{[]};
-ghost use mathlib.Core.Bool.{true};
-ghost use Rattle.market.specs.Day.{dayOf, view};
-ghost use Rattle.market.specs.Sound.{sound};
-ghost use Rattle.market.specs.Calls.{closingOf, closingOrder, endSession, startClosing};
-ghost use Prim.Native.Nat.{_≤_};
 ghost use Rattle.market.specs.Limits.{maxCodes};
-ghost use Rattle.market.specs.Contract.{Does};
-ghost use Rattle.market.specs.Closing.{counterparty as standsFor};
-ghost use Rattle.session.specs.Pairing.{Closable, ClosingPairs, Ends, Pairable, Pairs, places};
+ghost use Rattle.market.specs.Calls.{closingOrder, endSession, startClosing};
 ghost use Rattle.market.specs.Questions.{firstNo};
+ghost use Rattle.market.specs.Closing.{counterparty as standsFor};
+ghost use Rattle.market.specs.Parts.{Carries, Ready};
 ghost use Rattle.waiting.specs.Claims.{Reckonable};
-ghost use Rattle.session.specs.Placing.{Placeable, Places, earlyClosing, laterClosing};
-ghost use Rattle.session.specs.Parts.{bookOf, rulesOf};
 ghost use Rattle.session.specs.Leaving.{AllLeft, Leavable};
+ghost use Rattle.session.specs.Pairing.{Closable, ClosingPairs, Ends, Pairable, Pairs, places};
+ghost use Rattle.session.specs.Appending.{Appendable, Appends, closingWith, earlyClosing, laterClosing};
 
 // The needs of all waiting orders are freed. The caller's book has no orders then: `book.count = 0`.
 pub fn free_all(
@@ -269,15 +264,15 @@ pub fn later_closing_no<'a>(
 }
 
 // A closing order that passed its questions only waits: its need is blocked, its code given. `row` is its security's.
-pub fn place(
+pub fn append(
     b: OrderBook,
     o: Order,
     row: Security,
     money: &mut [u64; 512],
     pieces: &mut [u64; 512],
 ) -> OrderBook
-    requires { ⌜ Placeable row b o (now money) (now pieces) ⌝ }
-    ensures { λ r. ⌜ Places row b o (now (money .entry)) (now (pieces .entry)) (now (money .exit)) (now (pieces .exit)) r ⌝ }
+    requires { ⌜ Appendable row b o (now money) (now pieces) ⌝ }
+    ensures { λ r. ⌜ Appends row b o (now (money .entry)) (now (pieces .entry)) (now (money .exit)) (now (pieces .exit)) r ⌝ }
 {
     let mut book = b;
     let turnover = book.turnover[o.security as usize];
@@ -292,91 +287,13 @@ pub fn place(
     book
 }
 
-// The order book of a state.
-fn book_of(s: State) -> OrderBook
-    ensures { λ r. ⌜ r ≡ bookOf s ⌝ }
-{
-    let orders = s.orders;
-    let turnover = s.turnover;
-    OrderBook {
-        orders,
-        count: s.count,
-        codes: s.codes,
-        turnover,
-        filled: 0,
-        left: 0,
-        trades: 0,
-    }
-}
-
-// The state of these parts, in this phase.
-fn joined(s: State, phase: Phase, money: [u64; 512], pieces: [u64; 512], book: OrderBook) -> State
-    ensures { λ r. ⌜ view r ≡ dayOf (rulesOf s) phase money pieces book ⌝ }
-{
-    let table = s.table;
-    let orders = book.orders;
-    let turnover = book.turnover;
-    State {
-        participants: s.participants,
-        currencies: s.currencies,
-        securities: s.securities,
-        table,
-        money,
-        pieces,
-        orders,
-        count: book.count,
-        codes: book.codes,
-        phase,
-        turnover,
-    }
-}
-
-pub fn start_closing(s: State) -> Outcome
-    requires { ⌜ sound (view s) ≡ true ⌝ }
-    ensures { λ r. ⌜ Does s [] startClosing r [] ⌝ }
-{
-    let phase = s.phase;
-    if !is_open(phase) {
-        return refused(s, 6);
-    }
-    let table = s.table;
-    let mut money = s.money;
-    let mut pieces = s.pieces;
-    let mut book = book_of(s);
-    free_all(book, table, &mut money, &mut pieces);
-    book.count = 0;
-    accepted(joined(s, Phase::Closing, money, pieces, book))
-}
-
-pub fn end_session(s: State, trades: &mut [u64]) -> Outcome
-    requires { ⌜ sound (view s) ≡ true ⌝ }
-    ensures { λ r. ⌜ Does s (now (trades .entry)) endSession r (now (trades .exit)) ⌝ }
-{
-    if trades.len() < LENT_AT_LEAST {
-        return refused(s, 2);
-    }
-    let phase = s.phase;
-    if !is_closing(phase) {
-        return refused(s, 6);
-    }
-    let table = s.table;
-    let mut money = s.money;
-    let mut pieces = s.pieces;
-    let book = book_of(s);
-    let after = end_pairing(book, s.securities, table, &mut money, &mut pieces, trades);
-    Outcome {
-        answer: Answer::Done(0, after.filled, 0, after.trades),
-        state: joined(s, Phase::Closed, money, pieces, after),
-    }
-}
-
-// A closing order as it enters: it has no price.
-fn closing_order(s: State, participant: u64, side: Side, security: u64, lots: u64) -> Order
-    requires { ⌜ s .codes ≤ maxCodes ⌝ }
-    ensures { λ r. ⌜ r ≡ closingOf (view s) participant side security lots ⌝ }
+// A closing order as it enters, under the next code: it has no price.
+fn closing_order(codes: u64, participant: u64, side: Side, security: u64, lots: u64) -> Order
+    requires { ⌜ codes ≤ maxCodes ⌝ }
+    ensures { λ r. ⌜ r ≡ closingWith codes participant side security lots ⌝ }
 {
     Order {
-        code: s.codes + 1,
+        code: codes + 1,
         participant,
         side,
         security,
@@ -385,43 +302,95 @@ fn closing_order(s: State, participant: u64, side: Side, security: u64, lots: u6
     }
 }
 
+// All waiting orders come off, and closing orders may enter.
+pub fn start_closing(
+    b: OrderBook,
+    rules: Rules,
+    phase: Phase,
+    money: &mut [u64; 512],
+    pieces: &mut [u64; 512],
+) -> Carried
+    requires { ⌜ Ready rules phase (now money) (now pieces) b ⌝ }
+    ensures { λ r. ⌜ Carries rules phase (now (money .entry)) (now (pieces .entry)) b [] startClosing (now (money .exit)) (now (pieces .exit)) [] r ⌝ }
+{
+    if !is_open(phase) {
+        return declined(b, phase, 6);
+    }
+    let table = rules.table;
+    let mut book = b;
+    free_all(book, table, money, pieces);
+    book.count = 0;
+    Carried {
+        answer: Answer::Done(0, 0, 0, 0),
+        phase: Phase::Closing,
+        book,
+    }
+}
+
+// A closing order: its questions, then it only waits.
 pub fn enter_closing_order(
-    s: State,
+    b: OrderBook,
+    rules: Rules,
+    phase: Phase,
     participant: u64,
     side: Side,
     security: u64,
     lots: u64,
-) -> Outcome
-    requires { ⌜ sound (view s) ≡ true ⌝ }
-    ensures { λ r. ⌜ Does s [] (closingOrder participant side security lots) r [] ⌝ }
+    money: &mut [u64; 512],
+    pieces: &mut [u64; 512],
+) -> Carried
+    requires { ⌜ Ready rules phase (now money) (now pieces) b ⌝ }
+    ensures { λ r. ⌜ Carries rules phase (now (money .entry)) (now (pieces .entry)) b [] (closingOrder participant side security lots) (now (money .exit)) (now (pieces .exit)) [] r ⌝ }
 {
-    let phase = s.phase;
     let early = early_closing_no(
-        s.participants,
-        s.securities,
+        rules.participants,
+        rules.securities,
         phase,
         participant,
         security,
         lots,
     );
     if 0 < early {
-        return refused(s, early);
+        return declined(b, phase, early);
     }
-    let table = s.table;
-    let row = table[security as usize];
-    let turnovers = s.turnover;
-    let turnover = turnovers[security as usize];
-    let mut money = s.money;
-    let mut pieces = s.pieces;
-    let o = closing_order(s, participant, side, security, lots);
-    let later = later_closing_no(&money, &pieces, row, turnover, s.count, s.codes, o);
+    let row = rules.table[security as usize];
+    let turnover = b.turnover[security as usize];
+    let o = closing_order(b.codes, participant, side, security, lots);
+    let later = later_closing_no(&*money, &*pieces, row, turnover, b.count, b.codes, o);
     if 0 < later {
-        return refused(s, later);
+        return declined(b, phase, later);
     }
-    let book = book_of(s);
-    let after = place(book, o, row, &mut money, &mut pieces);
-    Outcome {
-        answer: Answer::Done(after.codes, after.filled, after.left, after.trades),
-        state: joined(s, Phase::Closing, money, pieces, after),
+    let book = append(b, o, row, money, pieces);
+    Carried {
+        answer: Answer::Done(book.codes, book.filled, book.left, book.trades),
+        phase,
+        book,
+    }
+}
+
+// Closing orders trade, the rest come off, the day is closed.
+pub fn end_session(
+    b: OrderBook,
+    rules: Rules,
+    phase: Phase,
+    money: &mut [u64; 512],
+    pieces: &mut [u64; 512],
+    trades: &mut [u64],
+) -> Carried
+    requires { ⌜ Ready rules phase (now money) (now pieces) b ⌝ }
+    ensures { λ r. ⌜ Carries rules phase (now (money .entry)) (now (pieces .entry)) b (now (trades .entry)) endSession (now (money .exit)) (now (pieces .exit)) (now (trades .exit)) r ⌝ }
+{
+    if trades.len() < LENT_AT_LEAST {
+        return declined(b, phase, 2);
+    }
+    if !is_closing(phase) {
+        return declined(b, phase, 6);
+    }
+    let table = rules.table;
+    let book = end_pairing(b, rules.securities, table, money, pieces, trades);
+    Carried {
+        answer: Answer::Done(0, book.filled, 0, book.trades),
+        phase: Phase::Closed,
+        book,
     }
 }

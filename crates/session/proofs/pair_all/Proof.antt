@@ -1,6 +1,6 @@
 -- `session::pair_all` meets its contract: both searches keep the best of the orders passed, and each turn leaves what the
 -- definition's pairing comes to as it was, under all rules that have the security's row.
-use Prim.Native.Nat.{ℕ, _+_, _-_, _*_, _≤_, _<_, min}
+use Prim.Native.Nat.{ℕ, _+_, _-_, _≤_, _<_, min}
 use native.Mathlib.Nat.{min-le-left, min-le-right}
 use native.Mathlib.Omega.{arith}
 use mathlib.Core.Path.{_∙_, _≡_, ap, refl, sym}
@@ -11,9 +11,9 @@ use Rattle.market.specs.declared.Order.{Order}
 use Rattle.market.specs.declared.OrderBook.{OrderBook}
 use Rattle.market.specs.declared.Phase.{Phase}
 use Rattle.market.specs.declared.Side.the-variants.{Buy, Sell}
-use Rattle.market.specs.Limits.{maxSecurities, maxWaiting}
+use Rattle.market.specs.Limits.{maxWaiting}
 use Rattle.market.specs.declared.Rules.{Rules}
-use Rattle.market.specs.Day.{dayOf, orderAt}
+use Rattle.market.specs.Day.{orderAt}
 use Rattle.market.specs.Matching.{best, found}
 use Rattle.market.specs.Closing.{counterparty, takeBoth}
 use Rattle.market.proofs.Sized.{sized-book}

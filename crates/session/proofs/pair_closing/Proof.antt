@@ -6,13 +6,12 @@ use mathlib.Core.Path.{_≡_, ap, refl, _∙_}
 use mathlib.Core.List.{List}
 use lib.ListN.{getD, length}
 use borrow.Author.Needs.{needs}
-use Rattle.market.specs.declared.OrderBook.{OrderBook}
 use Rattle.market.specs.declared.Phase.the-variants.{Closing}
 use Rattle.market.specs.declared.Security.{Security}
 use Rattle.market.specs.Limits.{maxSecurities}
 use Rattle.market.specs.declared.Rules.{Rules}
 use Rattle.market.specs.Day.{row, noSecurity}
-use Rattle.session.specs.Pairing.{Closes, Counts, Meets, cleared}
+use Rattle.session.specs.Pairing.{Closes, Counts}
 use Rattle.session.proofs.Leaving.{count-room}
 use Rattle.session.proofs.Rounds.{Rounds, cleared-closes, counts-start, rounds-end, rounds-meets, rounds-next, rounds-start}
 use Rattle.session.proofs.pair_closing.Statement.{statement}
