@@ -2,17 +2,14 @@
 use linked::group;
 use market::Call;
 use market::Carried;
-use market::MONEY_LIMIT;
 use market::OrderBook;
-use market::PIECES_LIMIT;
 use market::Phase;
 use market::Rules;
 use market::Ticket;
 use orders::cancel;
 use orders::order;
-use reserves::answered;
-use reserves::decrease;
-use reserves::increase;
+use reserves::answer_of;
+use reserves::moved;
 use session::end_session;
 use session::enter_closing_order;
 use session::start_closing;
@@ -32,25 +29,14 @@ pub fn carry_out(
     requires { ⌜ Ready rules phase (now money) (now pieces) b ⌝ }
     ensures { λ r. ⌜ Carries rules phase (now (money .entry)) (now (pieces .entry)) b (now (trades .entry)) (callOf call members) (now (money .exit)) (now (pieces .exit)) (now (trades .exit)) r ⌝ }
 {
-    let participants = rules.participants;
-    let currencies = rules.currencies;
-    let securities = rules.securities;
     match call {
-        Call::IncreaseMoney(p, c, amount) => {
-            let number = increase(money, participants, currencies, MONEY_LIMIT, p, c, amount);
-            answered(b, phase, number)
-        }
-        Call::DecreaseMoney(p, c, amount) => {
-            let number = decrease(money, participants, currencies, MONEY_LIMIT, p, c, amount);
-            answered(b, phase, number)
-        }
-        Call::IncreasePieces(p, s, amount) => {
-            let number = increase(pieces, participants, securities, PIECES_LIMIT, p, s, amount);
-            answered(b, phase, number)
-        }
-        Call::DecreasePieces(p, s, amount) => {
-            let number = decrease(pieces, participants, securities, PIECES_LIMIT, p, s, amount);
-            answered(b, phase, number)
+        Call::Reserve(m) => {
+            let answer = answer_of(moved(rules, m, money, pieces));
+            Carried {
+                answer,
+                phase,
+                book: b,
+            }
         }
         Call::Order(p, ticket, force) => {
             order(b, rules, phase, p, ticket, force, money, pieces, trades)

@@ -3,6 +3,7 @@
 use calls::carry_out;
 use market::Answer;
 use market::Call;
+use market::Move;
 use market::Outcome;
 use market::Security;
 use market::Side;
@@ -91,25 +92,37 @@ fn plain(s: State, c: Call) -> Outcome
 pub fn increase_money(s: State, participant: u64, currency: u64, amount: u64) -> Outcome
     ensures { λ r. ⌜ Does s [] (increase Money participant currency amount) r [] ⌝ }
 {
-    plain(s, Call::IncreaseMoney(participant, currency, amount))
+    plain(
+        s,
+        Call::Reserve(Move::IncreaseMoney(participant, currency, amount)),
+    )
 }
 
 pub fn decrease_money(s: State, participant: u64, currency: u64, amount: u64) -> Outcome
     ensures { λ r. ⌜ Does s [] (decrease Money participant currency amount) r [] ⌝ }
 {
-    plain(s, Call::DecreaseMoney(participant, currency, amount))
+    plain(
+        s,
+        Call::Reserve(Move::DecreaseMoney(participant, currency, amount)),
+    )
 }
 
 pub fn increase_pieces(s: State, participant: u64, security: u64, amount: u64) -> Outcome
     ensures { λ r. ⌜ Does s [] (increase Pieces participant security amount) r [] ⌝ }
 {
-    plain(s, Call::IncreasePieces(participant, security, amount))
+    plain(
+        s,
+        Call::Reserve(Move::IncreasePieces(participant, security, amount)),
+    )
 }
 
 pub fn decrease_pieces(s: State, participant: u64, security: u64, amount: u64) -> Outcome
     ensures { λ r. ⌜ Does s [] (decrease Pieces participant security amount) r [] ⌝ }
 {
-    plain(s, Call::DecreasePieces(participant, security, amount))
+    plain(
+        s,
+        Call::Reserve(Move::DecreasePieces(participant, security, amount)),
+    )
 }
 
 // The trades stand from the start of the lent list on.

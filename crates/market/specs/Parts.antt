@@ -6,6 +6,8 @@ use mathlib.Core.Bool.{true}
 use Rattle.market.specs.declared.Call as code
 use Rattle.market.specs.declared.Call.the-variants as coded
 use Rattle.market.specs.declared.Carried.{Carried}
+use Rattle.market.specs.declared.Move.{Move}
+use Rattle.market.specs.declared.Move.the-variants as moved
 use Rattle.market.specs.declared.OrderBook.{OrderBook}
 use Rattle.market.specs.declared.Phase.{Phase}
 use Rattle.market.specs.declared.Rules.{Rules}
@@ -33,11 +35,14 @@ bookOf s = record {
 }
 
 -- the call that the code's stands for; a group's members stand beside it
+abbrev pub moveOf : Move → Call
+moveOf (moved.IncreaseMoney p c a) = increase Money p c a
+moveOf (moved.DecreaseMoney p c a) = decrease Money p c a
+moveOf (moved.IncreasePieces p s a) = increase Pieces p s a
+moveOf (moved.DecreasePieces p s a) = decrease Pieces p s a
+
 unfoldable pub callOf : code.Call → List Ticket → Call
-callOf (coded.IncreaseMoney p c a) ms = increase Money p c a
-callOf (coded.DecreaseMoney p c a) ms = decrease Money p c a
-callOf (coded.IncreasePieces p s a) ms = increase Pieces p s a
-callOf (coded.DecreasePieces p s a) ms = decrease Pieces p s a
+callOf (coded.Reserve move) ms = moveOf move
 callOf (coded.Order p m force) ms = order p m force
 callOf (coded.Cancel p code) ms = cancel p code
 callOf (coded.Group p n) ms = linked p n ms

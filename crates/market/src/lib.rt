@@ -122,13 +122,17 @@ pub struct Rules {
     pub table: [Security; 16],
 }
 
-// A call with its arguments; the members of a group stand beside it.
-pub enum Call {
-    // Participant, currency or security, amount.
+// A move of reserves: participant, currency or security, amount.
+pub enum Move {
     IncreaseMoney(u64, u64, u64),
     DecreaseMoney(u64, u64, u64),
     IncreasePieces(u64, u64, u64),
     DecreasePieces(u64, u64, u64),
+}
+
+// A call with its arguments; the members of a group stand beside it.
+pub enum Call {
+    Reserve(Move),
     // Participant and order.
     Order(u64, Ticket, TimeInForce),
     // Participant and code.

@@ -1,201 +1,155 @@
--- From questions and entry on the parts of a State to the contract of the call.
-use Prim.Native.Nat.{ℕ, zero, suc, _≤_, _<_}
+-- From the questions and the entry of an order on the parts of a sound day to the contract of the call.
+use Prim.Native.Nat.{ℕ, _≤_, _<_}
 use native.Mathlib.Omega.{arith}
-use mathlib.Core.Path.{_≡_, refl, ap, sym, _∙_, subst}
-use mathlib.Core.List.{List, [], _∷_, _++_}
+use mathlib.Core.Path.{_≡_, ap, sym, _∙_, subst}
+use mathlib.Core.List.{List, [], _∷_}
 use mathlib.Core.Bool.{true, false}
 use lib.ListN.{length}
 use borrow.Author.Tests.{leb-true, le-leb, lt-leb, ltb-true}
-use Rattle.market.specs.declared.Answer.{Answer}
-use Rattle.market.specs.declared.Answer.the-variants.{Refused}
+use Rattle.market.specs.declared.Answer.the-variants.{Done, Refused}
 use Rattle.market.specs.declared.Ticket.{Ticket}
 use Rattle.market.specs.declared.Order.{Order}
 use Rattle.market.specs.declared.OrderBook.{OrderBook}
-use Rattle.market.specs.declared.Outcome.{Outcome}
 use Rattle.market.specs.declared.Phase.{Phase}
-use Rattle.market.specs.declared.Phase.the-variants.{Open}
-use Rattle.market.specs.declared.State.{State}
-use Rattle.market.specs.declared.TimeInForce.{TimeInForce}
-use Rattle.market.specs.Limits.{lentAtLeast, maxCodes, maxLots, maxSecurities, maxStep}
 use Rattle.market.specs.declared.Rules.{Rules}
-use Rattle.market.specs.Day.{Day, Sized, dayOf, row, turnoverAt, view}
-use Rattle.market.specs.Sound.{rowSound, rulesSound, sound}
+use Rattle.market.specs.declared.TimeInForce.{TimeInForce}
+use Rattle.market.specs.declared.Phase.the-variants.{Open}
+use Rattle.market.specs.Limits.{lentAtLeast, maxCodes, maxLots, maxSecurities}
+use Rattle.market.specs.Day.{Day, dayOf, row}
 use Rattle.market.specs.TradeList.{written}
 use Rattle.market.specs.Answers.{Result}
-use Rattle.market.specs.Calls.{order}
-use Rattle.market.specs.Questions.{Question, ask, firstNo, questions}
+use Rattle.market.specs.Calls.{Call, order}
+use Rattle.market.specs.Questions.{Question, ask, entryQuestions, firstNo, questions}
 use Rattle.market.specs.Entry.{entered}
-use Rattle.market.specs.Step.{effect, result, step}
-use Rattle.market.specs.Contract.{Does, HandedBack}
-use Rattle.market.proofs.Logic.{and-true, below-all, within-high, within-low}
+use Rattle.market.specs.Step.{effect}
+use Rattle.market.specs.Parts.{Carries, Ready}
 use Rattle.market.proofs.Lists.{all-map}
-use Rattle.market.proofs.Questions.{AllYes, all-yes}
+use Rattle.market.proofs.Questions.{AllYes, all-yes, hides, passes}
 use Rattle.market.proofs.Known.{OrderOk, open-phase}
-use Rattle.market.proofs.Step.{does-refuse}
+use Rattle.market.proofs.Parts.{carries-accept, carries-refuse}
 use Rattle.market.proofs.View.{first-length}
 use Rattle.invariant.specs.Standing.{Standing}
 use Rattle.invariant.proofs.Sound.{sound-standing}
 use Rattle.matching.specs.Filling.{openDay}
 use Rattle.matching.specs.Orders.{FewLots, waitingIn}
-use Rattle.orders.specs.Entering.{Accepts, Askable, Enterable, EntersAs, Joins, bookOf, earlyQuestions, entryWith}
-use Rattle.orders.specs.Entering.{fillableIn, laterQuestions, orderNo, rulesOf}
-use Rattle.orders.proofs.Asking.{asked-in-parts, hides, passes}
+use Rattle.orders.specs.Entering.{Accepts, Enterable, Enters, Known, entryWith, fillableIn, orderNo}
+use Rattle.orders.proofs.Asking.{whole-last}
 
--- an order on a sound State, with the list v lent
-module _ (s : State) (size : Sized (view s)) (t : sound (view s) ≡ true) (p : ℕ) (m : Ticket) (k : TimeInForce)
-    (v : List ℕ) where
-  abbrev r : Rules
-  r = rulesOf s
+-- the parts of a sound day
+module _ (r : Rules) (x : Phase) (m k : List ℕ) (b : OrderBook) (ready : Ready r x m k b) where
+  abbrev d : Day
+  d = dayOf r x m k b
 
-  abbrev b : OrderBook
-  b = bookOf s
+  standing : Standing d
+  standing = sound-standing d (ready .sized) (ready .sound)
 
-  standing : Standing (view s)
-  standing = sound-standing (view s) size t
+  pub codes-given : b .codes ≤ maxCodes
+  codes-given = leb-true (b .codes) maxCodes (standing .limit)
 
-  -- a refusal with the first "no"
-  refuse : (n : ℕ) → 0 < n → firstNo (questions (view s) (length v) (order p m k)) ≡ n
-      → Does s v (order p m k) (record { answer = Refused n 0; state = s }) v
-  refuse zero h e = absurd (omega arith)
-  refuse (suc n) h e = does-refuse s v (order p m k) n e
+  pub rules-known : Known r (b .codes)
+  rules-known = record { rules = standing .backed .rulesOk; codes = codes-given }
 
-  pub refuse-short : length v < lentAtLeast → Does s v (order p m k) (record { answer = Refused 2 0; state = s }) v
-  unfolding questions
-  refuse-short h = refuse 2 (omega arith) (rw (t, lt-leb lentAtLeast (length v) h))
+  pub few-lots : FewLots (b .count) (waitingIn b)
+  few-lots = record {
+    room = omega (arith, standing .room, first-length (b .count) (b .orders));
+    lots = all-map (OrderOk r) (λ o. o .lots ≤ maxLots) (waitingIn b) (λ o ok. ok .top) (standing .orders);
+  }
 
-  module _ (lent : lentAtLeast ≤ length v) where
-    abbrev early : List Question
-    early = earlyQuestions (r .participants) (r .securities) (s .phase) p m
-
-    abbrev later : List Question
-    later =
-        laterQuestions (row r (m .security)) (turnoverAt (s .turnover) (m .security)) (s .count) (s .codes) p m k (s .money)
-        (s .pieces)
+  -- an order
+  module _ (p : ℕ) (t : Ticket) (f : TimeInForce) where
+    abbrev asked : List Question
+    asked = entryQuestions d p t f
 
     abbrev last : List Question
-    last = ask 15 (fillableIn k (waitingIn b) (entryWith (s .codes) p m)) ∷ []
+    last = ask 15 (fillableIn f (waitingIn b) (entryWith (b .codes) p t)) ∷ []
 
-    from-four : firstNo (questions (view s) (length v) (order p m k)) ≡ orderNo (view s) p m k
-    unfolding questions
-    from-four = rw (t, le-leb lentAtLeast (length v) lent)
+    -- a "no" before question 15
+    pub no-first : (n : ℕ) → 0 < n → n ≡ firstNo asked → orderNo d p t f ≡ n
+    no-first n h e = whole-last r x m k b p t f ∙ hides asked last (omega arith) ∙ sym e
 
-    in-parts : orderNo (view s) p m k ≡ firstNo (early ++ later ++ last)
-    in-parts = asked-in-parts r (s .phase) (s .money) (s .pieces) b p m k
+    -- there is none, so its security stands in the table
+    module _ (none : firstNo asked ≡ 0) where
+      yeses : AllYes asked
+      yeses = all-yes asked tt none
 
-    pub refuse-early : (n : ℕ) → 0 < n → n ≡ firstNo early
-        → Does s v (order p m k) (record { answer = Refused n 0; state = s }) v
-    refuse-early n h e =
-        refuse n h (from-four ∙ in-parts ∙ hides early (later ++ last) (omega arith) ∙ sym e)
+      pub in-table : t .security < maxSecurities
+      in-table =
+          omega (arith, ltb-true (t .security) (r .securities) (yeses .1 .0), standing .backed .rulesOk .securities)
 
-    -- questions 4 to 7 are answered "yes"
-    module _ (none : firstNo early ≡ 0) where
-      yeses : AllYes early
-      yeses = all-yes early tt none
+      to-last : orderNo d p t f ≡ firstNo last
+      to-last = whole-last r x m k b p t f ∙ passes asked last yeses
 
-      known : m .security < r .securities
-      known = ltb-true (m .security) (r .securities) (yeses .1 .0)
+      opens : x ≡ Open
+      opens = open-phase x (yeses .1 .1 .0)
 
-      pub in-table : m .security < maxSecurities
-      in-table = omega (arith, known, standing .backed .rulesOk .securities)
+      same : d ≡ openDay r m k b
+      same = ap (λ (z : Phase). dayOf r z m k b) opens
 
-      pub codes-given : s .codes ≤ maxCodes
-      codes-given = leb-true (s .codes) maxCodes (standing .limit)
+      -- the entry e of which question 15 is asked
+      module _ {e : Order} (entry : e ≡ entryWith (b .codes) p t) where
+        pub no-whole : fillableIn f (waitingIn b) e ≡ false → orderNo d p t f ≡ 15
+        no-whole h = to-last ∙ rw (← entry, h)
 
-      pub askable : Askable (row r (m .security)) (s .codes) p m
-      unfolding rulesSound rowSound
-      askable =
-          let ok = standing .backed .rulesOk in
-          let l : rowSound (r .currencies) (row r (m .security)) ≡ true =
-          below-all (r .securities) (λ x. rowSound (r .currencies) (row r x)) ((and-true (ok .sound)) .1) (m .security) known in
-          record {
-            given = codes-given;
-            step = within-low 1 maxStep ((row r (m .security)) .step) ((and-true ((and-true l) .1)) .1);
-            participant = omega (arith, ltb-true p (r .participants) (yeses .0), ok .participants);
-            security = omega (arith, known, ok .securities);
-            currency = omega (arith, ok .currency (m .security) known, ok .currencies);
-            lot = ok .lot (m .security) known;
-            top = within-high 1 maxLots (m .lots) (yeses .1 .1 .1 .0);
-          }
+        pub no-none : fillableIn f (waitingIn b) e ≡ true → orderNo d p t f ≡ 0
+        no-none h = to-last ∙ rw (← entry, h)
 
-      rest : orderNo (view s) p m k ≡ firstNo (later ++ last)
-      rest = in-parts ∙ passes early (later ++ last) yeses
+        pub accepts : fillableIn f (waitingIn b) e ≡ true → Accepts r (row r (t .security)) b e f m k
+        accepts whole = record {
+          row = ap (λ (o : Order). row r (o .security)) entry;
+          standing = subst Standing same standing;
+          participant = p;
+          member = t;
+          entry = entry;
+          asked = ap (λ (z : Day). orderNo z p t f) (sym same) ∙ no-none whole;
+        }
 
-      pub refuse-later : (n : ℕ) → 0 < n → n ≡ firstNo later
-          → Does s v (order p m k) (record { answer = Refused n 0; state = s }) v
-      refuse-later n h e = refuse n h (from-four ∙ rest ∙ hides later last (omega arith) ∙ sym e)
+    -- with the list v lent
+    module _ (v : List ℕ) where
+      abbrev call : Call
+      call = order p t f
 
-      pub few-lots : FewLots (s .count) (waitingIn b)
-      few-lots = record {
-        room = omega (arith, standing .room, first-length (s .count) (s .orders));
-        lots = all-map (OrderOk r) (λ o. o .lots ≤ maxLots) (waitingIn b) (λ o ok. ok .top) (standing .orders);
-      }
+      abbrev declines : ℕ → Type 0
+      declines n = Carries r x m k b v call m k v (record { answer = Refused n 0; phase = x; book = b })
 
-      -- and so are 8 to 14
-      module _ (clear : firstNo later ≡ 0) where
-        to-last : orderNo (view s) p m k ≡ firstNo last
-        to-last = rest ∙ passes later last (all-yes later tt clear)
+      pub refuse-short : length v < lentAtLeast → declines 2
+      unfolding questions
+      refuse-short h =
+          carries-refuse r x m k b v call (ready .sound) 2 (omega arith) (rw (lt-leb lentAtLeast (length v) h))
 
-        pub refuse-last : fillableIn k (waitingIn b) (entryWith (s .codes) p m) ≡ false
-            → Does s v (order p m k) (record { answer = Refused 15 0; state = s }) v
-        refuse-last h = refuse 15 (omega arith) (from-four ∙ to-last ∙ rw h)
+      module _ (lent : lentAtLeast ≤ length v) where
+        from-four : firstNo (questions d (length v) call) ≡ orderNo d p t f
+        unfolding questions
+        from-four = rw (le-leb lentAtLeast (length v) lent)
 
-        -- and 15
-        module _ (whole : fillableIn k (waitingIn b) (entryWith (s .codes) p m) ≡ true) where
-          all : orderNo (view s) p m k ≡ 0
-          all = to-last ∙ rw whole
+        pub refuse-first : (n : ℕ) → 0 < n → n ≡ firstNo asked → declines n
+        refuse-first n h e = carries-refuse r x m k b v call (ready .sound) n h (from-four ∙ no-first n h e)
 
-          opens : s .phase ≡ Open
-          opens = open-phase (s .phase) (yeses .1 .1 .0)
+        module _ (none : firstNo asked ≡ 0) {e : Order} (entry : e ≡ entryWith (b .codes) p t) where
+          pub refuse-whole : fillableIn f (waitingIn b) e ≡ false → declines 15
+          refuse-whole h =
+              carries-refuse r x m k b v call (ready .sound) 15 (omega arith) (from-four ∙ no-whole none entry h)
 
-          abbrev d : Day
-          d = openDay r (s .money) (s .pieces) b
+          -- question 15 is answered "yes"
+          module _ (whole : fillableIn f (waitingIn b) e ≡ true) where
+            pub enterable : Enterable (row r (t .security)) b e f m k v
+            enterable = record {
+              rules = r;
+              accepts = accepts none entry whole;
+              lent = omega (arith, lent, few-lots .room);
+            }
 
-          same : view s ≡ d
-          same = ap (λ (x : Phase). dayOf r x (s .money) (s .pieces) b) opens
+            effect-is : effect d call ≡ entered (openDay r m k b) e f
+            unfolding effect
+            effect-is =
+                ap (λ (z : Order). entered d z f) (sym entry) ∙ ap (λ (z : Day). entered z e f) (same none)
 
-          accepts : Accepts r (row r (m .security)) b (entryWith (s .codes) p m) k (s .money) (s .pieces)
-          accepts = record {
-            row = refl;
-            standing = subst Standing same standing;
-            participant = p;
-            member = m;
-            entry = refl;
-            asked = ap (λ (x : Day). orderNo x p m k) (sym same) ∙ all;
-          }
-
-          pub enterable : {b′ : OrderBook} {e : Order} → b′ ≡ b → e ≡ entryWith (s .codes) p m
-              → Enterable (row r (m .security)) b′ e k (s .money) (s .pieces) v
-          enterable eb ee =
-              rw (eb, ee)
-              (record {
-                rules = r;
-                accepts = accepts;
-                lent = omega (arith, lent, few-lots .room);
-              })
-
-          call : result (view s) (length v) (order p m k) ≡ entered d (entryWith (s .codes) p m) k
-          unfolding result effect
-          call = rw (from-four ∙ all) (ap (λ (z : Day). entered z (entryWith (s .codes) p m) k) same)
-
-          -- the outcome of these parts
-          pub does-enter : {b′ : OrderBook} {e : Order} → b′ ≡ b → e ≡ entryWith (s .codes) p m → (m′ k′ v′ : List ℕ)
-              (after : OrderBook) (o : Outcome)
-              → ((q : Rules) → Accepts q (row r (m .security)) b′ e k (s .money) (s .pieces)
-              → EntersAs (entered (openDay q (s .money) (s .pieces) b′) e k) q v m′ k′ v′ after)
-              → Joins s m′ k′ after o → Does s v (order p m k) o v′
-          unfolding step
-          does-enter eb ee m′ k′ v′ after o enters joins =
-              let x : EntersAs (entered d (entryWith (s .codes) p m) k) r v m′ k′ v′ after =
-              (rw (eb, ee) at enters) r accepts in
-              record {
-                meets = record {
-                  answer = joins .answer ∙ x .answer ∙ sym (ap (λ (z : Result). z .answer) call);
-                  state =
-                      joins .state
-                      ∙ ap (λ (z : Phase). dayOf r z m′ k′ after) opens
-                      ∙ x .day
-                      ∙ sym (ap (λ (z : Result). z .day) call);
-                  list = x .list ∙ sym (ap (λ (z : Result). written (z .trades) v) call);
-                };
-                refusal = subst (λ (z : Answer). HandedBack s z (o .state)) (sym (joins .answer)) tt;
-              }
+            pub order-enters : (m′ k′ v′ : List ℕ) (b′ : OrderBook)
+                → Enters (row r (t .security)) b e f m k v m′ k′ v′ b′
+                → Carries r x m k b v call m′ k′ v′
+                (record { answer = Done (b′ .codes) (b′ .filled) (b′ .left) (b′ .trades); phase = x; book = b′ })
+            order-enters m′ k′ v′ b′ enters =
+                let y = enters r (accepts none entry whole) in
+                carries-accept r x m k b v call (ready .sound) m′ k′ v′ _ (from-four ∙ no-none none entry whole)
+                (y .answer ∙ sym (ap (λ (z : Result). z .answer) effect-is))
+                (ap (λ (z : Phase). dayOf r z m′ k′ b′) (opens none) ∙ y .day ∙ sym (ap (λ (z : Result). z .day) effect-is))
+                (y .list ∙ sym (ap (λ (z : Result). written (z .trades) v) effect-is))

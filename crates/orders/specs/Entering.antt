@@ -9,24 +9,23 @@ use Rattle.market.specs.declared.Kind.the-variants as kind
 use Rattle.market.specs.declared.Ticket.{Ticket}
 use Rattle.market.specs.declared.Order.{Order}
 use Rattle.market.specs.declared.OrderBook.{OrderBook}
-use Rattle.market.specs.declared.Outcome.{Outcome}
 use Rattle.market.specs.declared.Phase.{Phase}
 use Rattle.market.specs.declared.Security.{Security}
-use Rattle.market.specs.declared.State.{State}
 use Rattle.market.specs.declared.TimeInForce.{TimeInForce}
 use Rattle.market.specs.declared.TimeInForce.the-variants.{FillOrKill, ImmediateOrCancel, Kept}
 use Rattle.market.specs.declared.Turnover.{Turnover}
 use Rattle.market.specs.Limits.{columns, maxCodes, maxLot, maxLots, maxWaiting, numbersPerTrade}
 use Rattle.market.specs.Tests.{_<?_, _≤?_, known}
 use Rattle.market.specs.declared.Rules.{Rules}
-use Rattle.market.specs.Day.{Day, dayOf, row, view}
+use Rattle.market.specs.Day.{Day, dayOf, row}
 use Rattle.market.specs.Sound.{isOpen, lotsSound, priceSound}
 use Rattle.market.specs.TradeList.{written}
 use Rattle.market.specs.Answers.{Result}
 use Rattle.market.specs.Calls.{entryOf}
 use Rattle.market.specs.Matching.{fitting}
-use Rattle.market.specs.Questions.{Question, ask, firstNo, orderQuestions}
+use Rattle.market.specs.Questions.{Question, ask, entryQuestions, firstNo, orderQuestions}
 use Rattle.market.specs.Entry.{entered}
+use Rattle.market.proofs.Known.{RulesOk}
 use Rattle.invariant.specs.Standing.{Standing}
 use Rattle.matching.specs.Filling.{openDay}
 use Rattle.waiting.specs.Claims.{coveredBy}
@@ -83,6 +82,17 @@ pub record Askable (l : Security) (codes p : ℕ) (m : Ticket) : Type 0 where
   pub lot : l .lot ≤ maxLot
   pub top : m .lots ≤ maxLots
 
+-- the rules are sound, and the codes given are within the limit
+pub record Known (r : Rules) (given : ℕ) : Type 0 where
+  pub rules : RulesOk r
+  pub codes : given ≤ maxCodes
+
+-- n is the first "no" of questions 4 to 14, on every day whose order book has this turnover, count and codes
+abbrev pub EntryNo : Rules → Phase → List Turnover → (count codes : ℕ) → (m k : List ℕ) → ℕ → Ticket → TimeInForce → ℕ → Type 0
+EntryNo r x t count codes m k p ticket f n =
+    (b : OrderBook) → b .turnover ≡ t → b .count ≡ count → b .codes ≡ codes
+    → n ≡ firstNo (entryQuestions (dayOf r x m k b) p ticket f)
+
 -- under rules r, l is the row of the entry's security, the day is sound, and e is an order that passed its questions
 pub record Accepts (r : Rules) (l : Security) (b : OrderBook) (e : Order) (f : TimeInForce) (m k : List ℕ) : Type 0 where
   pub row : row r (e .security) ≡ l
@@ -108,23 +118,3 @@ pub record EntersAs (x : Result) (r : Rules) (v m′ k′ v′ : List ℕ) (b′
 abbrev pub Enters : Security → OrderBook → Order → TimeInForce → (m k v m′ k′ v′ : List ℕ) → OrderBook → Type 0
 Enters l b e f m k v m′ k′ v′ b′ =
     (r : Rules) → Accepts r l b e f m k → EntersAs (entered (openDay r m k b) e f) r v m′ k′ v′ b′
-
--- the rules and the order book of a State
-abbrev pub rulesOf : State → Rules
-rulesOf s = (view s) .rules
-
-abbrev pub bookOf : State → OrderBook
-bookOf s = record {
-  orders = s .orders;
-  count = s .count;
-  codes = s .codes;
-  turnover = s .turnover;
-  filled = 0;
-  left = 0;
-  trades = 0;
-}
-
--- a State made of these parts
-pub record Joins (s : State) (m k : List ℕ) (b : OrderBook) (o : Outcome) : Type 0 where
-  pub answer : o .answer ≡ Done (b .codes) (b .filled) (b .left) (b .trades)
-  pub state : view (o .state) ≡ dayOf (rulesOf s) (s .phase) m k b

@@ -3,6 +3,7 @@
 use amounts::price_sound;
 use amounts::within;
 use market::Answer;
+use market::Carried;
 use market::Kind;
 use market::LENT_AT_LEAST;
 use market::MAX_CODES;
@@ -10,16 +11,14 @@ use market::MAX_LOTS;
 use market::MAX_WAITING;
 use market::Order;
 use market::OrderBook;
-use market::Outcome;
 use market::Phase;
+use market::Rules;
 use market::Security;
-use market::Side;
-use market::State;
 use market::Ticket;
 use market::TimeInForce;
 use market::Turnover;
+use market::declined;
 use market::is_open;
-use market::refused;
 use matching::fill;
 use matching::fitting_lots;
 use matching::with_lots;
@@ -29,18 +28,15 @@ use waiting::free_need;
 use waiting::left;
 ghost use mathlib.Core.Path.{_≡_};
 ghost use mathlib.Core.List.{[]};
-ghost use mathlib.Core.Bool.{true};
 ghost use Prim.Native.Nat.{_≤_};
 ghost use Rattle.market.specs.Limits.{maxCodes, maxWaiting};
-ghost use Rattle.market.specs.Day.{dayOf, view};
-ghost use Rattle.market.specs.Sound.{sound};
 ghost use Rattle.market.specs.Waiting.{placeOf};
-ghost use Rattle.market.specs.Calls.{cancel as cancelCall, order};
+ghost use Rattle.market.specs.Calls.{cancel as cancelCall, order as orderCall};
 ghost use Rattle.market.specs.Questions.{firstNo};
 ghost use Rattle.market.specs.Entry.{leftWaiting};
-ghost use Rattle.market.specs.Contract.{Does};
+ghost use Rattle.market.specs.Parts.{Carries, Ready};
 ghost use Rattle.matching.specs.Orders.{FewLots, waitingIn};
-ghost use Rattle.orders.specs.Entering.{Askable, Enterable, Enters, Joins, bookOf, earlyQuestions, entryWith, fillableIn, laterQuestions, roomWith, rulesOf};
+ghost use Rattle.orders.specs.Entering.{Askable, Enterable, Enters, EntryNo, Known, earlyQuestions, entryWith, fillableIn, laterQuestions, roomWith};
 ghost use Rattle.orders.specs.Finding.{foundAt, isOwn as ownOrder};
 
 // Place of a waiting order.
@@ -145,6 +141,49 @@ pub fn later_no<'a>(
     0
 }
 
+// The first "no" of questions 4 to 14, which read no waiting order; 0 where there is none.
+pub fn order_no<'a>(
+    rules: Rules,
+    phase: Phase,
+    turnovers: [Turnover; 16],
+    count: usize,
+    codes: u64,
+    money: &'a [u64; 512],
+    pieces: &'a [u64; 512],
+    participant: u64,
+    ticket: Ticket,
+    force: TimeInForce,
+) -> u64
+    requires { ⌜ Known rules codes ⌝ }
+    ensures { λ r. ⌜ EntryNo rules phase turnovers count codes (now (money .entry)) (now (pieces .entry)) participant ticket force r ⌝ }
+{
+    let early = early_no(
+        rules.participants,
+        rules.securities,
+        phase,
+        participant,
+        ticket,
+    );
+    if 0 < early {
+        return early;
+    }
+    let security = ticket.security as usize;
+    let table = rules.table;
+    let row = table[security];
+    let turnover = turnovers[security];
+    later_no(
+        money,
+        pieces,
+        row,
+        turnover,
+        count,
+        codes,
+        participant,
+        ticket,
+        force,
+    )
+}
+
 fn left_waiting(force: TimeInForce, rest: Order) -> u64
     ensures { λ r. ⌜ r ≡ leftWaiting force rest ⌝ }
 {
@@ -193,103 +232,52 @@ pub fn enter(
     book
 }
 
-// What of a state order entry goes by value.
-pub fn book_of(s: State) -> OrderBook
-    ensures { λ r. ⌜ r ≡ bookOf s ⌝ }
-{
-    let orders = s.orders;
-    let turnover = s.turnover;
-    OrderBook {
-        orders,
-        count: s.count,
-        codes: s.codes,
-        turnover,
-        filled: 0,
-        left: 0,
-        trades: 0,
-    }
-}
-
-// The state with these parts.
-pub fn state_of(s: State, money: [u64; 512], pieces: [u64; 512], book: OrderBook) -> State
-    ensures { λ r. ⌜ view r ≡ dayOf (rulesOf s) (s .phase) money pieces book ⌝ }
-{
-    let mut next = s;
-    next.money = money;
-    next.pieces = pieces;
-    let orders = book.orders;
-    next.orders = orders;
-    next.count = book.count;
-    next.codes = book.codes;
-    let turnover = book.turnover;
-    next.turnover = turnover;
-    next
-}
-
-// That state, and what was answered.
-fn joined(s: State, money: [u64; 512], pieces: [u64; 512], book: OrderBook) -> Outcome
-    ensures { λ r. ⌜ Joins s money pieces book r ⌝ }
-{
-    Outcome {
-        answer: Answer::Done(book.codes, book.filled, book.left, book.trades),
-        state: state_of(s, money, pieces, book),
-    }
-}
-
-pub fn enter_order(
-    s: State,
+// An order of any of the three kinds.
+pub fn order(
+    b: OrderBook,
+    rules: Rules,
+    phase: Phase,
     participant: u64,
-    side: Side,
-    security: u64,
-    price: u64,
-    lots: u64,
+    ticket: Ticket,
     force: TimeInForce,
+    money: &mut [u64; 512],
+    pieces: &mut [u64; 512],
     trades: &mut [u64],
-) -> Outcome
-    requires { ⌜ sound (view s) ≡ true ⌝ }
-    ensures { λ r. ⌜ Does s (now (trades .entry)) (order participant (record { side = side; security = security; price = price; lots = lots }) force) r (now (trades .exit)) ⌝ }
+) -> Carried
+    requires { ⌜ Ready rules phase (now money) (now pieces) b ⌝ }
+    ensures { λ r. ⌜ Carries rules phase (now (money .entry)) (now (pieces .entry)) b (now (trades .entry)) (orderCall participant ticket force) (now (money .exit)) (now (pieces .exit)) (now (trades .exit)) r ⌝ }
 {
     if trades.len() < LENT_AT_LEAST {
-        return refused(s, 2);
+        return declined(b, phase, 2);
     }
-    let member = Ticket {
-        side,
-        security,
-        price,
-        lots,
-    };
-    let phase = s.phase;
-    let early = early_no(s.participants, s.securities, phase, participant, member);
-    if 0 < early {
-        return refused(s, early);
-    }
-    let table = s.table;
-    let row = table[security as usize];
-    let turnovers = s.turnover;
-    let turnover = turnovers[security as usize];
-    let mut money = s.money;
-    let mut pieces = s.pieces;
-    let later = later_no(
-        &money,
-        &pieces,
-        row,
-        turnover,
-        s.count,
-        s.codes,
+    let turnovers = b.turnover;
+    let number = order_no(
+        rules,
+        phase,
+        turnovers,
+        b.count,
+        b.codes,
+        &*money,
+        &*pieces,
         participant,
-        member,
+        ticket,
         force,
     );
-    if 0 < later {
-        return refused(s, later);
+    if 0 < number {
+        return declined(b, phase, number);
     }
-    let entry = entry_of(s.codes, participant, member);
-    let book = book_of(s);
-    if !is_fillable(book, force, entry) {
-        return refused(s, 15);
+    let entry = entry_of(b.codes, participant, ticket);
+    if !is_fillable(b, force, entry) {
+        return declined(b, phase, 15);
     }
-    let after = enter(book, entry, force, row, &mut money, &mut pieces, trades);
-    joined(s, money, pieces, after)
+    let table = rules.table;
+    let row = table[ticket.security as usize];
+    let book = enter(b, entry, force, row, money, pieces, trades);
+    Carried {
+        answer: Answer::Done(book.codes, book.filled, book.left, book.trades),
+        phase,
+        book,
+    }
 }
 
 fn is_own(participant: u64, code: u64, o: Order) -> bool
@@ -316,27 +304,32 @@ pub fn find(b: OrderBook, participant: u64, code: u64) -> Found
 }
 
 // The order gives its place up, and its need is freed.
-pub fn cancel(s: State, participant: u64, code: u64) -> Outcome
-    requires { ⌜ sound (view s) ≡ true ⌝ }
-    ensures { λ r. ⌜ Does s [] (cancelCall participant code) r [] ⌝ }
+pub fn cancel(
+    b: OrderBook,
+    rules: Rules,
+    phase: Phase,
+    participant: u64,
+    code: u64,
+    money: &mut [u64; 512],
+    pieces: &mut [u64; 512],
+) -> Carried
+    requires { ⌜ Ready rules phase (now money) (now pieces) b ⌝ }
+    ensures { λ r. ⌜ Carries rules phase (now (money .entry)) (now (pieces .entry)) b [] (cancelCall participant code) (now (money .exit)) (now (pieces .exit)) [] r ⌝ }
 {
-    if s.participants <= participant {
-        return refused(s, 4);
+    if rules.participants <= participant {
+        return declined(b, phase, 4);
     }
-    let book = book_of(s);
-    let found = find(book, participant, code);
+    let found = find(b, participant, code);
     let Found::At(at) = found else {
-        return refused(s, 16);
+        return declined(b, phase, 16);
     };
-    let orders = s.orders;
-    let o = orders[at];
-    let table = s.table;
+    let o = b.orders[at];
+    let table = rules.table;
     let row = table[o.security as usize];
-    let mut money = s.money;
-    let mut pieces = s.pieces;
-    let after = left(book, at, row, &mut money, &mut pieces);
-    Outcome {
+    let book = left(b, at, row, money, pieces);
+    Carried {
         answer: Answer::Done(code, 0, 0, 0),
-        state: state_of(s, money, pieces, after),
+        phase,
+        book,
     }
 }
