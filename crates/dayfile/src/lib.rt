@@ -1,17 +1,18 @@
 // A trading day from a day file: its commands are carried out one after another, and what they print is put into a lent
 // buffer.
 use calls::carry_out;
+use heading::MALFORMED;
+use heading::heading_of;
 use lines::Line;
 use market::Answer;
 use market::Call;
-use market::MAX_SECURITIES;
 use market::Order;
 use market::OrderBook;
-use market::Outcome;
 use market::Phase;
 use market::Rules;
 use market::Security;
 use market::State;
+use market::Ticket;
 use market::TimeInForce;
 use market::Turnover;
 use market::book_of;
@@ -25,6 +26,8 @@ use printing::put_answer;
 use printing::put_positions;
 use printing::put_trades;
 use reading::command_at;
+use reserves::answer_of;
+use reserves::moved;
 ghost use mathlib.Core.Path.{_≡_};
 ghost use mathlib.Core.List.{_++_};
 ghost use mathlib.Core.Bool.{false, true};
@@ -40,9 +43,6 @@ ghost use Rattle.dayfile.specs.Heading.{ReadsHeading, ReadsSecurities, W
 ghost use Rattle.dayfile.specs.Command.{Carries, carried};
 ghost use Rattle.dayfile.specs.Output.{maxText};
 ghost use Rattle.dayfile.specs.Run.{Begins, Continues, Fills, Going, Prints, TooLong, room};
-
-// A malformed line, or one out of its place.
-pub const MALFORMED: u64 = 19;
 
 const TOO_LONG: u64 = 20;
 
@@ -62,21 +62,6 @@ pub struct Run {
     pub line: u64,
     pub filled: usize,
     pub over: bool,
-}
-
-// The `S` lines of a heading: the line of the first fault or 0, and the place where the text goes on.
-struct Securities {
-    fault: u64,
-    table: [Security; 16],
-    next: usize,
-}
-
-// A heading: its answer and the line that it stands on, and the line and place where the text goes on.
-struct Headed {
-    outcome: Outcome,
-    line: u64,
-    next: u64,
-    at: usize,
 }
 
 // A command's answer and its trades, from place `at` of the buffer on.
@@ -103,19 +88,18 @@ struct Stand {
     filled: usize,
 }
 
-// What comes of a line before any waiting order is read.
+// What comes of a line where no waiting order has to be read.
 enum Asked {
-    // Refused with this number.
-    No(u64),
-    // An order whose questions 4 to 14 are answered "yes", the row of its security, and how it enters.
+    // Answered: a malformed line or one out of its place, a move of reserves, an order refused by questions 4 to 14.
+    Answered(Answer),
+    // An order whose questions 4 to 14 are answered "yes", with the row of its security.
     Enters(Order, Security, TimeInForce),
     // Any other call.
     Other(Call),
 }
 
-// A malformed line, or one out of its place, is refused; so is an order by its questions 4 to 14.
-fn asked<'a>(
-    says: Line,
+// An order's questions 4 to 14.
+fn order_asked<'a>(
     rules: Rules,
     phase: Phase,
     turnovers: [Turnover; 16],
@@ -123,13 +107,10 @@ fn asked<'a>(
     codes: u64,
     money: &'a [u64; 512],
     pieces: &'a [u64; 512],
+    participant: u64,
+    ticket: Ticket,
+    force: TimeInForce,
 ) -> Asked {
-    let Line::Call(call) = says else {
-        return Asked::No(MALFORMED);
-    };
-    let Call::Order(participant, ticket, force) = call else {
-        return Asked::Other(call);
-    };
     let number = order_no(
         rules,
         phase,
@@ -143,12 +124,45 @@ fn asked<'a>(
         force,
     );
     if 0 < number {
-        return Asked::No(number);
+        return Asked::Answered(Answer::Refused(number, 0));
     }
     let table = rules.table;
     let row = table[ticket.security as usize];
     let entry = entry_of(codes, participant, ticket);
     Asked::Enters(entry, row, force)
+}
+
+fn asked(
+    says: Line,
+    rules: Rules,
+    phase: Phase,
+    turnovers: [Turnover; 16],
+    count: usize,
+    codes: u64,
+    money: &mut [u64; 512],
+    pieces: &mut [u64; 512],
+) -> Asked {
+    let Line::Call(call) = says else {
+        return Asked::Answered(Answer::Refused(MALFORMED, 0));
+    };
+    if let Call::Reserve(m) = call {
+        return Asked::Answered(answer_of(moved(rules, m, money, pieces)));
+    }
+    if let Call::Order(participant, ticket, force) = call {
+        return order_asked(
+            rules,
+            phase,
+            turnovers,
+            count,
+            codes,
+            &*money,
+            &*pieces,
+            participant,
+            ticket,
+            force,
+        );
+    }
+    Asked::Other(call)
 }
 
 // Are there a command and room for it?
@@ -184,13 +198,13 @@ fn commands(
             turnovers,
             book.count,
             book.codes,
-            &*money,
-            &*pieces,
+            money,
+            pieces,
         );
         let mut answer = Answer::Refused(UNFILLABLE, 0);
         match verdict {
-            Asked::No(number) => {
-                answer = Answer::Refused(number, 0);
+            Asked::Answered(known) => {
+                answer = known;
             }
             Asked::Enters(entry, row, force) => {
                 if is_fillable(book, force, entry) {
@@ -266,98 +280,6 @@ pub fn resume(text: &[u8], from: Run, out: &mut [u8]) -> Run {
     }
 }
 
-// `S` lines whose first fault stands on this line.
-fn wrong_securities(fault: u64, table: [Security; 16], next: usize) -> Securities
-    ensures { λ r. ⌜ r ≡ record { fault = fault; table = table; next = next } ⌝ }
-{
-    Securities { fault, table, next }
-}
-
-// The lines of n securities; more than 16 keep their form, and the opening refuses them.
-fn securities_at(text: &[u8], from: usize, n: u64) -> Securities
-    requires { ⌜ length (now text) ≤ maxText ⌝ }
-    ensures { λ r. ⌜ ReadsSecurities (now (text .entry)) from n r ⌝ }
-{
-    let none = Security {
-        currency: 0,
-        lot: 0,
-        step: 0,
-    };
-    let mut table = [none; 16];
-    let mut at = from;
-    let mut i: u64 = 0;
-    while i < n {
-        if text.len() <= at {
-            return wrong_securities(i + 2, table, at);
-        }
-        let reading = command_at(text, at);
-        let says = reading.says;
-        let Line::Security(currency, lot, step) = says else {
-            return wrong_securities(i + 2, table, at);
-        };
-        if i < MAX_SECURITIES {
-            table[i as usize] = Security {
-                currency,
-                lot,
-                step,
-            };
-        }
-        i += 1;
-        at = reading.next;
-    }
-    Securities {
-        fault: 0,
-        table,
-        next: at,
-    }
-}
-
-// A heading whose first fault stands on this line.
-fn wrong_heading(line: u64) -> Headed
-    ensures { λ r. ⌜ WrongHeading line r ⌝ }
-{
-    Headed {
-        outcome: engine::refused_opening(MALFORMED, 0),
-        line,
-        next: 0,
-        at: 0,
-    }
-}
-
-// The place of a refusal; 0 where the call is accepted.
-fn place_of(answer: Answer) -> u64
-    ensures { λ r. ⌜ r ≡ (numbersOf answer) .place ⌝ }
-{
-    match answer {
-        Answer::Refused(_, place) => place,
-        Answer::Done(_, _, _, _) => 0,
-    }
-}
-
-fn heading_of(text: &[u8]) -> Headed
-    requires { ⌜ length (now text) ≤ maxText ⌝ }
-    ensures { λ r. ⌜ ReadsHeading (now (text .entry)) r ⌝ }
-{
-    let reading = command_at(text, 0);
-    let says = reading.says;
-    let Line::Heading(participants, currencies, securities) = says else {
-        return wrong_heading(1);
-    };
-    let lines = securities_at(text, reading.next, securities);
-    if lines.fault != 0 {
-        return wrong_heading(lines.fault);
-    }
-    let table = lines.table;
-    let outcome = engine::opening(participants, currencies, securities, table);
-    let answer = outcome.answer;
-    Headed {
-        outcome,
-        line: place_of(answer) + 1,
-        next: securities + 2,
-        at: lines.next,
-    }
-}
-
 fn is_done(answer: Answer) -> bool
     ensures { λ r. ⌜ r ≡ isDone answer ⌝ }
 {
@@ -372,7 +294,7 @@ fn too_long(out: &mut [u8]) -> Run
     requires { ⌜ room ≤ length (now out) ⌝ }
     ensures { λ r. ⌜ TooLong (now (out .entry)) r (now (out .exit)) ⌝ }
 {
-    let outcome = engine::refused_opening(TOO_LONG, 0);
+    let outcome = opening::refused_opening(TOO_LONG, 0);
     let answer = outcome.answer;
     let filled = put_answer(out, 0, 0, answer);
     let state = outcome.state;

@@ -8,31 +8,29 @@ use borrow.Author.Tests.{leb-true, ltb-true}
 use Rattle.market.specs.declared.Ticket.{Ticket}
 use Rattle.market.specs.declared.OrderBook.{OrderBook}
 use Rattle.market.specs.declared.Phase.{Phase}
-use Rattle.market.specs.declared.Security.{Security}
+use Rattle.market.specs.declared.Rules.{Rules}
 use Rattle.market.specs.declared.TimeInForce.the-variants.{FillOrKill}
 use Rattle.market.specs.Limits.{maxCodes, maxLots, maxSecurities, maxStep}
-use Rattle.market.specs.declared.Rules.{Rules}
 use Rattle.market.specs.Day.{dayOf, row, turnoverAt}
 use Rattle.market.specs.Sound.{rowSound, rulesSound}
 use Rattle.market.specs.Questions.{Question, ask, firstNo}
 use Rattle.market.proofs.Logic.{and-true, below-all, within-high, within-low}
 use Rattle.market.proofs.Lists.{all-map}
-use Rattle.market.proofs.Questions.{AllYes, all-yes}
+use Rattle.market.proofs.Questions.{AllYes, all-yes, hides, passes}
 use Rattle.market.proofs.Known.{OrderOk}
 use Rattle.market.proofs.View.{first-length}
 use Rattle.invariant.specs.Standing.{Standing}
 use Rattle.matching.specs.Orders.{FewLots, waitingIn}
-use Rattle.orders.specs.Entering.{Askable as Asked, earlyQuestions, entryWith, fillableIn, laterQuestions, orderNo}
-use Rattle.orders.proofs.Asking.{asked-in-parts, hides, passes}
-use Rattle.linked.specs.Group.{noIn, rulesWith}
+use Rattle.orders.specs.Entering.{Askable, earlyQuestions, entryWith, fillableIn, laterQuestions, orderNo}
+use Rattle.orders.proofs.Asking.{asked-in-parts}
 
-module _ (P S : ℕ) (x : Phase) (T : List Security) (b : OrderBook) (m k : List ℕ) (c : ℕ)
-    (standing : Standing (dayOf (rulesWith P S T c) x m k b)) (p : ℕ) (q : Ticket) where
-  abbrev r : Rules
-  r = rulesWith P S T c
+module _ (r : Rules) (x : Phase) (m k : List ℕ) (b : OrderBook) (standing : Standing (dayOf r x m k b)) (p : ℕ)
+    (q : Ticket) where
+  abbrev no : ℕ
+  no = orderNo (dayOf r x m k b) p q FillOrKill
 
   abbrev early : List Question
-  early = earlyQuestions P S x p q
+  early = earlyQuestions (r .participants) (r .securities) x p q
 
   abbrev later : List Question
   later =
@@ -41,12 +39,11 @@ module _ (P S : ℕ) (x : Phase) (T : List Security) (b : OrderBook) (m k : List
   abbrev last : List Question
   last = ask 15 (fillableIn FillOrKill (waitingIn b) (entryWith (b .codes) p q)) ∷ []
 
-  -- these are the definition's
-  pub no-is : orderNo (dayOf r x m k b) p q FillOrKill ≡ noIn P S x T b p q m k
-  no-is = asked-in-parts r x m k b p q FillOrKill
+  in-parts : no ≡ firstNo (early ++ later ++ last)
+  in-parts = asked-in-parts r x m k b p q FillOrKill
 
-  pub no-early : (n : ℕ) → 0 < n → n ≡ firstNo early → n ≡ noIn P S x T b p q m k
-  no-early n h e = e ∙ sym (hides early (later ++ last) (omega arith))
+  pub no-early : (n : ℕ) → 0 < n → n ≡ firstNo early → n ≡ no
+  no-early n h e = e ∙ sym (in-parts ∙ hides early (later ++ last) (omega arith))
 
   pub codes-given : b .codes ≤ maxCodes
   codes-given = leb-true (b .codes) maxCodes (standing .limit)
@@ -56,32 +53,32 @@ module _ (P S : ℕ) (x : Phase) (T : List Security) (b : OrderBook) (m k : List
     yeses : AllYes early
     yeses = all-yes early tt none
 
-    known : q .security < S
-    known = ltb-true (q .security) S (yeses .1 .0)
+    known : q .security < r .securities
+    known = ltb-true (q .security) (r .securities) (yeses .1 .0)
 
     pub in-table : q .security < maxSecurities
     in-table = omega (arith, known, standing .backed .rulesOk .securities)
 
-    pub askable : Asked (row r (q .security)) (b .codes) p q
+    pub askable : Askable (row r (q .security)) (b .codes) p q
     unfolding rulesSound rowSound
     askable =
         let ok = standing .backed .rulesOk in
-        let l : rowSound c (row r (q .security)) ≡ true =
-        below-all S (λ y. rowSound c (row r y)) ((and-true (ok .sound)) .1) (q .security) known in
+        let l : rowSound (r .currencies) (row r (q .security)) ≡ true =
+        below-all (r .securities) (λ y. rowSound (r .currencies) (row r y)) ((and-true (ok .sound)) .1) (q .security) known in
         record {
           given = codes-given;
           step = within-low 1 maxStep ((row r (q .security)) .step) ((and-true ((and-true l) .1)) .1);
-          participant = omega (arith, ltb-true p P (yeses .0), ok .participants);
+          participant = omega (arith, ltb-true p (r .participants) (yeses .0), ok .participants);
           security = omega (arith, known, ok .securities);
           currency = omega (arith, ok .currency (q .security) known, ok .currencies);
           lot = ok .lot (q .security) known;
           top = within-high 1 maxLots (q .lots) (yeses .1 .1 .1 .0);
         }
 
-    rest : noIn P S x T b p q m k ≡ firstNo (later ++ last)
-    rest = passes early (later ++ last) yeses
+    rest : no ≡ firstNo (later ++ last)
+    rest = in-parts ∙ passes early (later ++ last) yeses
 
-    pub no-later : (n : ℕ) → 0 < n → n ≡ firstNo later → n ≡ noIn P S x T b p q m k
+    pub no-later : (n : ℕ) → 0 < n → n ≡ firstNo later → n ≡ no
     no-later n h e = e ∙ sym (rest ∙ hides later last (omega arith))
 
     pub few-lots : FewLots (b .count) (waitingIn b)
@@ -92,11 +89,11 @@ module _ (P S : ℕ) (x : Phase) (T : List Security) (b : OrderBook) (m k : List
 
     -- and so are 8 to 14
     module _ (clear : firstNo later ≡ 0) where
-      to-last : noIn P S x T b p q m k ≡ firstNo last
+      to-last : no ≡ firstNo last
       to-last = rest ∙ passes later last (all-yes later tt clear)
 
-      pub no-last : fillableIn FillOrKill (waitingIn b) (entryWith (b .codes) p q) ≡ false → 15 ≡ noIn P S x T b p q m k
+      pub no-last : fillableIn FillOrKill (waitingIn b) (entryWith (b .codes) p q) ≡ false → 15 ≡ no
       no-last h = sym (to-last ∙ rw h)
 
-      pub no-none : fillableIn FillOrKill (waitingIn b) (entryWith (b .codes) p q) ≡ true → 0 ≡ noIn P S x T b p q m k
+      pub no-none : fillableIn FillOrKill (waitingIn b) (entryWith (b .codes) p q) ≡ true → 0 ≡ no
       no-none h = sym (to-last ∙ rw h)

@@ -1,99 +1,63 @@
--- From the members in turn on the parts of a State to the contract of the call.
+-- A group on the parts of a sound day, refused or carried through, as its contract asks for it.
 use Prim.Native.Nat.{ℕ, _≤_, _<_}
 use native.Mathlib.Omega.{arith}
-use mathlib.Core.Path.{_≡_, refl, ap, sym, _∙_, subst}
+use mathlib.Core.Path.{_≡_, ap, sym, _∙_}
 use mathlib.Core.List.{List}
-use mathlib.Core.Bool.{true, false}
-use lib.ListN.{length}
+use mathlib.Core.Bool.{false}
+use lib.ListN.{length, take}
 use borrow.Author.Tests.{le-leb, lt-leb}
-use Rattle.market.specs.declared.Answer.{Answer}
-use Rattle.market.specs.declared.Answer.the-variants.{Done, Refused}
-use Rattle.market.specs.declared.Ticket.{Ticket}
+use Rattle.market.specs.declared.Answer.the-variants.{Refused}
+use Rattle.market.specs.declared.Carried.{Carried}
 use Rattle.market.specs.declared.OrderBook.{OrderBook}
-use Rattle.market.specs.declared.Outcome.{Outcome}
-use Rattle.market.specs.declared.State.{State}
+use Rattle.market.specs.declared.Phase.{Phase}
+use Rattle.market.specs.declared.Rules.{Rules}
+use Rattle.market.specs.declared.Ticket.{Ticket}
 use Rattle.market.specs.Limits.{lentAtLeast, maxMembers, minMembers}
 use Rattle.market.specs.Tests.{within}
-use Rattle.market.specs.Day.{Day, Sized, dayOf, view}
-use Rattle.market.specs.Sound.{sound}
+use Rattle.market.specs.Day.{Day, dayOf}
 use Rattle.market.specs.TradeList.{written}
 use Rattle.market.specs.Answers.{Result}
 use Rattle.market.specs.Calls.{linked}
-use Rattle.market.specs.Linked.{Group, groupResult, members, passed, stopped}
+use Rattle.market.specs.Linked.{Group, groupResult, members}
 use Rattle.market.specs.Questions.{firstNo, questions}
-use Rattle.market.specs.Step.{effect, result, step}
-use Rattle.market.specs.Contract.{Does, HandedBack}
-use Rattle.market.proofs.Logic.{within-high}
-use Rattle.invariant.proofs.Sound.{sound-standing}
-use Rattle.orders.specs.Entering.{bookOf, rulesOf}
-use Rattle.linked.specs.Group.{GivesAs, Groupable, Groups, Ready, inTurn}
-use Rattle.linked.specs.declared.Grouped.{Grouped}
+use Rattle.market.specs.Step.{effect}
+use Rattle.market.specs.Parts.{Carries, Ready}
+use Rattle.market.proofs.Parts.{carries-accept, carries-refuse}
+use Rattle.linked.specs.Group.{Groupable}
 
--- a refused group leaves the day as it was
-stays : (d : Day) (p : ℕ) (g : Group) (n at : ℕ) → Refused n at ≡ (groupResult d p g) .answer → d ≡ (groupResult d p g) .day
-stays d p (stopped m q) n at e = refl
-stays d p (passed d′ f ts) n at e = absurd (let z : _≡_ {A = ℕ} 0 1 = cc in omega arith)
+module _ (r : Rules) (x : Phase) (m k : List ℕ) (b : OrderBook) (l : List ℕ) (p count : ℕ) (ms : List Ticket) where
+  abbrev d : Day
+  d = dayOf r x m k b
 
-module _ (s : State) (p count : ℕ) (ms : List Ticket) (l : List ℕ) (t : sound (view s) ≡ true) where
-  pub group-short : length l < lentAtLeast → firstNo (questions (view s) (length l) (linked p count ms)) ≡ 2
+  -- questions 2 and 3
+  pub group-short : Ready r x m k b → length l < lentAtLeast
+      → Carries r x m k b l (linked p count ms) m k l (record { answer = Refused 2 0; phase = x; book = b })
   unfolding questions
-  group-short h = rw (t, lt-leb lentAtLeast (length l) h)
+  group-short ready h =
+      carries-refuse r x m k b l (linked p count ms) (ready .sound) 2 (omega arith) (rw (lt-leb lentAtLeast (length l) h))
 
-  module _ (h : lentAtLeast ≤ length l) where
-    pub group-many : within minMembers maxMembers count ≡ false
-        → firstNo (questions (view s) (length l) (linked p count ms)) ≡ 3
+  pub group-many : Ready r x m k b → lentAtLeast ≤ length l → within minMembers maxMembers count ≡ false
+      → Carries r x m k b l (linked p count ms) m k l (record { answer = Refused 3 0; phase = x; book = b })
+  unfolding questions
+  group-many ready h w =
+      carries-refuse r x m k b l (linked p count ms) (ready .sound) 3 (omega arith)
+      (rw (le-leb lentAtLeast (length l) h, w))
+
+  -- what the members come to
+  module _ (able : Groupable r x m k b count l) (g : Group) (all : members 1 d p (take count ms) ≡ g) where
+    asked : firstNo (questions d (length l) (linked p count ms)) ≡ 0
     unfolding questions
-    group-many w = rw (t, le-leb lentAtLeast (length l) h, w)
+    asked = rw (le-leb lentAtLeast (length l) (able .lent), able .few)
 
-    module _ (w : within minMembers maxMembers count ≡ true) (size : Sized (view s)) where
-      ready : Ready (s .participants) (s .securities) (s .phase) (s .table) (bookOf s) count (s .money) (s .pieces) l
-          (s .currencies)
-      ready = record {
-        standing = sound-standing (view s) size t;
-        lent = h;
-        most = within-high minMembers maxMembers count w;
-      }
+    same : groupResult d p g ≡ effect d (linked p count ms)
+    unfolding effect
+    same = ap (groupResult d p) (sym all)
 
-      pub group-ready : {b : OrderBook} → b ≡ bookOf s
-          → Groupable (s .participants) (s .securities) (s .phase) (s .table) b count (s .money) (s .pieces) l
-      group-ready eb = rw eb (record { currencies = s .currencies; ready = ready })
-
-      abbrev whole : Result
-      whole = inTurn (view s) p count ms
-
-      call : result (view s) (length l) (linked p count ms) ≡ whole
-      unfolding questions result effect
-      call = rw (t, le-leb lentAtLeast (length l) h, w)
-
-      does-give : (l′ : List ℕ) (o : Outcome) → o .answer ≡ whole .answer → view (o .state) ≡ whole .day
-          → l′ ≡ written (whole .trades) l → HandedBack s (o .answer) (o .state) → Does s l (linked p count ms) o l′
-      unfolding step
-      does-give l′ o answer day list back = record {
-        meets = record {
-          answer = answer ∙ ap (λ (y : Result). y .answer) (sym call);
-          state = day ∙ ap (λ (y : Result). y .day) (sym call);
-          list = list ∙ ap (λ (y : Result). written (y .trades) l) (sym call);
-        };
-        refusal = back;
-      }
-
-      -- order book and positions after the members, and what they answered
-      module _ {b : OrderBook} (eb : b ≡ bookOf s) {m′ k′ l′ : List ℕ} (g : Grouped)
-          (groups : Groups (s .participants) (s .securities) (s .phase) (s .table) b p count ms (s .money) (s .pieces) l m′ k′ l′ g)
-        where
-          gives : GivesAs whole (rulesOf s) (s .phase) l m′ k′ l′ g
-          gives = (rw eb at groups) (s .currencies) ready
-
-          pub group-refused : (n at : ℕ) → g .answer ≡ Refused n at
-              → Does s l (linked p count ms) (record { answer = g .answer; state = s }) l′
-          group-refused n at e =
-              does-give l′ (record { answer = g .answer; state = s }) (gives .answer)
-              (stays (view s) p (members 1 (view s) p _) n at (sym e ∙ gives .answer)) (gives .list)
-              (subst (λ (a : Answer). HandedBack s a s) (sym e) refl)
-
-          pub group-does : (z : State) (code lots left number : ℕ) → g .answer ≡ Done code lots left number
-              → view z ≡ dayOf (rulesOf s) (s .phase) m′ k′ (g .book)
-              → Does s l (linked p count ms) (record { answer = g .answer; state = z }) l′
-          group-does z code lots left number e state =
-              does-give l′ (record { answer = g .answer; state = z }) (gives .answer) (state ∙ gives .day) (gives .list)
-              (subst (λ (a : Answer). HandedBack s a z) (sym e) tt)
+    pub group-carries : (m′ k′ l′ : List ℕ) (o : Carried) → o .answer ≡ (groupResult d p g) .answer
+        → dayOf r (o .phase) m′ k′ (o .book) ≡ (groupResult d p g) .day → l′ ≡ written ((groupResult d p g) .trades) l
+        → Carries r x m k b l (linked p count ms) m′ k′ l′ o
+    group-carries m′ k′ l′ o answer day list =
+        carries-accept r x m k b l (linked p count ms) (able .ready .sound) m′ k′ l′ o asked
+        (answer ∙ ap (λ (y : Result). y .answer) same)
+        (day ∙ ap (λ (y : Result). y .day) same)
+        (list ∙ ap (λ (y : Result). written (y .trades) l) same)

@@ -1,10 +1,9 @@
--- One member of a group: what its number tells, and what it leaves of the group.
+-- One member of a group, and what it leaves of the group.
 use Prim.Native.Nat.{ℕ, zero, suc, _+_, _≤_, _<_}
 use native.Mathlib.Nat.{zero-add}
 use native.Mathlib.Omega.{arith}
 use mathlib.Core.Path.{_≡_, refl, ap, sym, _∙_}
 use mathlib.Core.List.{List, [], _∷_, _++_, append-assoc}
-use Rattle.market.specs.declared.Answer.the-variants.{Done, Refused}
 use Rattle.market.specs.declared.Ticket.{Ticket}
 use Rattle.market.specs.declared.TimeInForce.the-variants.{FillOrKill}
 use Rattle.market.specs.Limits.{maxLots}
@@ -18,7 +17,6 @@ use Rattle.market.specs.Linked.{Group, memberBy, members, passed, stopped, with
 use Rattle.market.proofs.Logic.{within-high}
 use Rattle.market.proofs.Questions.{all-yes, yes}
 use Rattle.orders.specs.Entering.{orderNo}
-use Rattle.linked.specs.Group.{toldBy}
 
 -- members that filled so many lots in these trades, before the rest of the group
 abbrev pub before : ℕ → List Trade → Group → Group
@@ -36,15 +34,6 @@ before-member filled ts r (passed d more us) =
     let own = (numbersOf (r .answer)) .filled in
     let sum : filled + (own + more) ≡ filled + own + more = omega arith in
     rw (sum, append-assoc ts (r .trades) us)
-
--- what an answer tells of the number that it was told by
-pub told-none : (n place code lots left trades : ℕ) → toldBy n place ≡ Done code lots left trades → n ≡ 0
-told-none zero place code lots left trades e = refl
-told-none (suc n) place code lots left trades e = absurd (let z : _≡_ {A = ℕ} 0 1 = cc in omega arith)
-
-pub told-no : (n place number at : ℕ) → toldBy n place ≡ Refused number at → (0 < n) × (toldBy n place ≡ Refused n place)
-told-no zero place number at e = absurd (let z : _≡_ {A = ℕ} 0 1 = cc in omega arith)
-told-no (suc n) place number at e = (omega arith, refl)
 
 module _ (d : Day) (p : ℕ) (m : Ticket) where
   abbrev result : Result

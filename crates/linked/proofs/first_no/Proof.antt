@@ -4,8 +4,7 @@ use native.Mathlib.Omega.{arith}
 use mathlib.Core.Path.{_≡_, ap, _∙_}
 use Rattle.market.specs.declared.TimeInForce.the-variants.{FillOrKill}
 use Rattle.market.specs.Limits.{maxSecurities}
-use lib.ListN.{getD}
-use Rattle.market.specs.Day.{noSecurity, turnoverAt}
+use Rattle.market.specs.Day.{row, turnoverAt}
 use Rattle.market.specs.Questions.{firstNo}
 use Rattle.amounts.proofs.Answers.{fails, holds}
 use Rattle.matching.specs.Orders.{waitingIn}
@@ -23,27 +22,27 @@ returns c =
     let e = c .before in
     let b = e .before in
     let a = b .args in
-    no-early (a .participants) (a .securities) (a .phase) (a .t5) (a .t1) _ _ (b .pre .currencies) (b .pre .standing)
+    no-early (a .t2) (a .phase) _ _ (a .t1) (b .pre)
     (a .participant) (a .member) (e .early-no .result) (c .if1 .taken) (e .early-no .ensures)
 
 -- behind question 7
 none : (c : tie.Else1) →
     let a = c .before .before .args in
-    firstNo (earlyQuestions (a .participants) (a .securities) (a .phase) (a .participant) (a .member)) ≡ 0
+    firstNo (earlyQuestions (a .t2 .participants) (a .t2 .securities) (a .phase) (a .participant) (a .member)) ≡ 0
 none c = omega (arith, c .if1 .left, c .before .early-no .ensures)
 
 listed : (c : tie.Else1) → c .before .before .args .member .security < maxSecurities
 listed c =
     let b = c .before .before in
     let a = b .args in
-    in-table (a .participants) (a .securities) (a .phase) (a .t5) (a .t1) _ _ (b .pre .currencies) (b .pre .standing)
+    in-table (a .t2) (a .phase) _ _ (a .t1) (b .pre)
     (a .participant) (a .member) (none c)
 
 mul-row : tie.Need-mul-row
 mul-row c = omega (arith, listed c)
 
-array-copy-out-row : tie.Need-array-copy-out-row
-array-copy-out-row c = listed c
+element-copy-out-row : tie.Need-element-copy-out-row
+element-copy-out-row c = listed c
 
 mul-turnover : tie.Need-mul-turnover
 mul-turnover c = omega (arith, listed (c .before))
@@ -56,7 +55,7 @@ later-no-requires c κs =
     let k = c .before .before in
     let b = k .before .before in
     let a = b .args in
-    askable (a .participants) (a .securities) (a .phase) (a .t5) (a .t1) _ _ (b .pre .currencies) (b .pre .standing)
+    askable (a .t2) (a .phase) _ _ (a .t1) (b .pre)
     (a .participant) (a .member) (none k)
 
 returns-2 : tie.Need-returns-2
@@ -65,7 +64,7 @@ returns-2 c =
     let k = q .before .before .before in
     let b = k .before .before in
     let a = b .args in
-    no-later (a .participants) (a .securities) (a .phase) (a .t5) (a .t1) _ _ (b .pre .currencies) (b .pre .standing)
+    no-later (a .t2) (a .phase) _ _ (a .t1) (b .pre)
     (a .participant) (a .member) (none k) (q .later-no .result) (c .if2 .taken) (q .later-no .ensures)
 
 entry-of-requires : tie.Need-entry-of-requires
@@ -73,7 +72,7 @@ entry-of-requires c κs =
     let k = c .before .before .before .before in
     let b = k .before .before in
     let a = b .args in
-    codes-given (a .participants) (a .securities) (a .phase) (a .t5) (a .t1) _ _ (b .pre .currencies) (b .pre .standing)
+    codes-given (a .t2) (a .phase) _ _ (a .t1) (b .pre)
     (a .participant) (a .member)
 
 is-fillable-requires : tie.Need-is-fillable-requires
@@ -81,13 +80,13 @@ is-fillable-requires c κs =
     let k = c .before .before .before .before .before in
     let b = k .before .before in
     let a = b .args in
-    few-lots (a .participants) (a .securities) (a .phase) (a .t5) (a .t1) _ _ (b .pre .currencies) (b .pre .standing)
+    few-lots (a .t2) (a .phase) _ _ (a .t1) (b .pre)
     (a .participant) (a .member) (none k)
 
 -- behind question 14, and what question 15 asked
 clear : (c : tie.Else2) →
     let a = c .before .before .before .before .before .before .args in
-    firstNo (laterQuestions (getD (a .t5) (a .member .security) noSecurity) (turnoverAt (a .t1 .turnover) (a .member .security))
+    firstNo (laterQuestions (row (a .t2) (a .member .security)) (turnoverAt (a .t1 .turnover) (a .member .security))
     (a .t1 .count) (a .t1 .codes) (a .participant) (a .member) FillOrKill (a .money .now) (a .pieces .now))
     ≡ 0
 clear c = omega (arith, c .if2 .left, c .before .later-no .ensures)
@@ -105,7 +104,7 @@ returns-3 c =
     let k = q .before .before .before .before in
     let b = k .before .before in
     let a = b .args in
-    no-last (a .participants) (a .securities) (a .phase) (a .t5) (a .t1) _ _ (b .pre .currencies) (b .pre .standing)
+    no-last (a .t2) (a .phase) _ _ (a .t1) (b .pre)
     (a .participant) (a .member) (none k) (clear q) (fails (asked (c .before)) (c .if3 .taken))
 
 returns-4 : tie.Need-returns-4
@@ -114,7 +113,7 @@ returns-4 c =
     let k = q .before .before .before .before in
     let b = k .before .before in
     let a = b .args in
-    no-none (a .participants) (a .securities) (a .phase) (a .t5) (a .t1) _ _ (b .pre .currencies) (b .pre .standing)
+    no-none (a .t2) (a .phase) _ _ (a .t1) (b .pre)
     (a .participant) (a .member) (none k) (clear q) (holds (asked (c .before)) (c .if3 .left))
 
 pub first-no-spec : {M : Type 1} → statement M
@@ -124,7 +123,7 @@ first-no-spec =
     early-no-requires
     returns
     mul-row
-    array-copy-out-row
+    element-copy-out-row
     mul-turnover
     element-copy-out-turnover
     later-no-requires

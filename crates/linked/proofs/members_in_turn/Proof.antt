@@ -1,29 +1,25 @@
 -- `linked::members_in_turn` meets its contract. The loop's invariant: the group comes to what is done and the members
--- from here on, with every number of currencies with which the day is sound.
+-- from here on.
 use Prim.Native.Nat.{ℕ, _+_, _*_, _-_, _≤_, _<_}
 use native.Mathlib.Omega.{arith}
-use mathlib.Core.Path.{_≡_, refl, _∙_}
-use mathlib.Core.List.{[]}
+use mathlib.Core.Path.{_≡_, ap, _∙_, subst}
+use mathlib.Core.Logic.{⊎-elim}
 use lib.ListN.{length}
 use borrow.Author.Needs.{needs}
-use Rattle.market.specs.Limits.{lentAtLeast, maxLots, maxMembers, numbersPerTrade}
-use Rattle.linked.specs.Group.{Ready}
-use Rattle.linked.proofs.Taken.{before-none}
-use Rattle.linked.proofs.Turns.{From, Turn, code-before, codes-fit, known, sums-fit, turn-enters, turn-long}
-use Rattle.linked.proofs.Turns.{turn-next, turn-room, turn-stops, turns-end}
+use Rattle.market.specs.Limits.{lentAtLeast, maxMembers, numbersPerTrade}
+use Rattle.market.specs.Linked.{stopped}
+use Rattle.linked.proofs.Turns.{From, Tells, Turn, code-before, codes-fit, few-members, known, tells-done}
+use Rattle.linked.proofs.Turns.{tells-no, turn-enters, turn-first, turn-long, turn-room, turn-stops, turn-sums}
+use Rattle.linked.proofs.Turns.{turns-end, whole}
 use Rattle.linked.proofs.members_in_turn.Statement.{statement}
 use Rattle.linked.proofs.members_in_turn.Tie as tie
 
 abbrev Inv-loop : tie.InvT-loop
-Inv-loop b participants securities phase participant count money₀ pieces₀ trades₀ table members kept kept-money kept-pieces
-    first book₀ filled₀ made₀ i₀ money pieces trades book filled made i =
-    (c : ℕ) → Ready participants securities phase table b count money₀ pieces₀ trades₀ c
-    → Turn (record {
-      participants = participants;
-      securities = securities;
+Inv-loop b phase participant count money₀ pieces₀ trades₀ rules members kept kept-money kept-pieces book₀ filled₀
+    made₀ i₀ money pieces trades book filled made i =
+    Turn (record {
+      rules = rules;
       phase = phase;
-      table = table;
-      currencies = c;
       owner = participant;
       count = count;
       members = members;
@@ -34,22 +30,19 @@ Inv-loop b participants securities phase participant count money₀ pieces₀ tr
     }) money pieces trades book filled made i
 
 abbrev μ-loop : tie.MeasureT-loop
-μ-loop b participants securities phase participant count money₀ pieces₀ trades₀ table members kept kept-money kept-pieces
-    first book₀ filled₀ made₀ i₀ money pieces trades book filled made i = count - i
+μ-loop b phase participant count money₀ pieces₀ trades₀ rules members kept kept-money kept-pieces book₀ filled₀
+    made₀ i₀ money pieces trades book filled made i = count - i
 
--- what the group starts from, with c currencies
-abbrev from : tie.Start Inv-loop μ-loop → ℕ → From
-from b c =
+-- what the group starts from
+abbrev from : tie.Start Inv-loop μ-loop → From
+from b =
     let a = b .args in
     record {
-      participants = a .participants;
-      securities = a .securities;
+      rules = a .t2;
       phase = a .phase;
-      table = a .t5;
-      currencies = c;
       owner = a .participant;
       count = a .count;
-      members = a .t8;
+      members = a .t6;
       book = a .b;
       money = a .money .now;
       pieces = a .pieces .now;
@@ -57,52 +50,32 @@ from b c =
     }
 
 saved-requires : tie.Need-saved-requires Inv-loop μ-loop
-saved-requires c κs = c .before .before .pre .ready .lent
-
-add-first : tie.Need-add-first Inv-loop μ-loop
-add-first c =
-    let b = c .before .before .before .before .before .before in
-    omega (arith, code-before (from b (b .pre .currencies)) (b .pre .ready))
+saved-requires c κs = c .before .before .pre .lent
 
 loop-holds : tie.Need-loop-holds Inv-loop μ-loop
-loop-holds c = λ k ready.
-    let b = c .before .before .before .before .before .before in
-    record {
-      ready = ready;
-      listed = b .good .1 .1 .1 .1 .1 .1 .1 .0 .1 .0 .1;
-      turns = omega arith;
-      stays = ready .standing;
-      trades = [];
-      number = refl;
-      space = omega arith;
-      lots = omega arith;
-      list = refl;
-      runs = before-none _;
-    }
+loop-holds c =
+    let b = c .before .before .before .before .before in
+    turn-first (from b) (b .pre) (b .good .1 .1 .1 .1 .1 .0 .1 .0 .1)
 
 abbrev start : tie.At-loop Inv-loop μ-loop → tie.Start Inv-loop μ-loop
-start c = c .before .before .before .before .before .before .before
-
--- a turn, with the currencies that the caller vouches for
-going : (c : tie.At-loop Inv-loop μ-loop) →
-    let l = c .loop in
-    Turn (from (start c) ((start c) .pre .currencies)) (l .money) (l .pieces) (l .trades) (l .book) (l .filled) (l .made) (l .i)
-going c = c .loop .inv ((start c) .pre .currencies) ((start c) .pre .ready)
+start c = c .before .before .before .before .before .before
 
 -- before a member there is room for as many trades as orders wait, and the list is long enough
 room : (c : tie.In-loop Inv-loop μ-loop)
     → numbersPerTrade * (c .before .loop .made + c .before .loop .book .count) ≤ lentAtLeast
-room c = turn-room (going (c .before)) (c .loop-test .taken)
+room c = turn-room (c .before .loop .inv) (c .loop-test .taken)
 
 lent : (c : tie.In-loop Inv-loop μ-loop)
     → numbersPerTrade * (c .before .loop .made + c .before .loop .book .count) ≤ length (c .before .loop .trades)
 lent c =
-    let t = going (c .before) in
-    omega (arith, room c, turn-long t, t .ready .lent)
+    let t = c .before .loop .inv in
+    omega (arith, room c, turn-long t, t .able .lent)
 
 -- there are few members
 place : (c : tie.In-loop Inv-loop μ-loop) → c .before .loop .i < maxMembers
-place c = omega (arith, (start (c .before)) .pre .ready .most, c .loop-test .taken)
+place c =
+    let b = start (c .before) in
+    omega (arith, few-members (from b) (b .pre), c .loop-test .taken)
 
 mul-at : tie.Need-mul-at Inv-loop μ-loop
 mul-at c = omega (arith, room c)
@@ -114,25 +87,11 @@ array-copy-out-member : tie.Need-array-copy-out-member Inv-loop μ-loop
 array-copy-out-member c = place c
 
 first-no-requires : tie.Need-first-no-requires Inv-loop μ-loop
-first-no-requires c κs =
-    let k = c .before .before .before .before in
-    record { currencies = (start k) .pre .currencies; standing = (going k) .stays }
+first-no-requires c κs = c .before .before .before .before .loop .inv .stays
 
-add-told : tie.Need-add-told Inv-loop μ-loop
-add-told c = omega (arith, place (c .before .before .before .before))
-
-told-requires : tie.Need-told-requires Inv-loop μ-loop
-told-requires c κs = search needs
-
-enum-told : tie.Need-enum-told Inv-loop μ-loop
-enum-told c = search needs
-
-enum-told-2 : tie.Need-enum-told-2 Inv-loop μ-loop
-enum-told-2 c = search needs
-
--- a turn, once the member's answer is told
-abbrev inside : tie.After-told Inv-loop μ-loop → tie.In-loop Inv-loop μ-loop
-inside c = c .before .before .before .before .before
+-- a turn, once the member's questions are asked
+abbrev inside : tie.After-first-no Inv-loop μ-loop → tie.In-loop Inv-loop μ-loop
+inside c = c .before .before .before .before
 
 abbrev at : tie.In-loop Inv-loop μ-loop → ℕ
 at c = c .before .loop .made * 8
@@ -140,61 +99,26 @@ at c = c .before .loop .made * 8
 here : (c : tie.In-loop Inv-loop μ-loop) → at c ≡ numbersPerTrade * c .before .loop .made
 here c = omega arith
 
--- refused
-abbrev refused : tie.After-restore-arg Inv-loop μ-loop → tie.After-told Inv-loop μ-loop
-refused c = c .before .before .before
+add-t39 : tie.Need-add-t39 Inv-loop μ-loop
+add-t39 c = omega (arith, place (inside c))
 
-restore-requires : tie.Need-restore-requires Inv-loop μ-loop
-restore-requires c κs =
-    let k = inside (refused c) in
-    (omega (arith, room k), omega (arith, lent k))
-
-same-length : tie.Need-same-length Inv-loop μ-loop
-same-length c =
-    let r = c .before .before in
-    r .restore .kept .1 .1 .0 ∙ turn-long (going ((inside (refused (r .before))) .before))
-
-returns : tie.Need-returns Inv-loop μ-loop
-returns c = λ q ready.
-    let r = c .before .before in
-    let e = r .before .before in
-    let d = refused (r .before) in
+element-copy-out-row : tie.Need-element-copy-out-row Inv-loop μ-loop
+element-copy-out-row c =
+    let d = c .before in
     let k = inside d in
-    rw (r .restore .ensures)
-    (turn-stops (k .before .loop .inv q ready) _ (k .loop-test .taken) (at k) (here k) (d .before .first-no .result)
-    (d .before .first-no .ensures) (d .told .result) (d .told .ensures) _ _ (e .enum-told2 .given .1) _
-    (k .before .before .before .before .before .saved .ensures))
-
--- accepted: its security is known, and a code is left
-abbrev Yes : Type 0
-Yes = tie.After-enum-told Inv-loop μ-loop
-
-abbrev taken : Yes → tie.After-told Inv-loop μ-loop
-taken c = c .before .before
-
-array-copy-out-row : tie.Need-array-copy-out-row Inv-loop μ-loop
-array-copy-out-row c =
-    let d = taken c in
-    let k = inside d in
-    known (going (k .before)) _ (k .loop-test .taken) (at k) (here k) (d .before .first-no .result)
-    (d .before .first-no .ensures) (d .told .result) (d .told .ensures) (c .enum-told .given .1)
+    known (k .before .loop .inv) _ (k .loop-test .taken) (d .first-no .result) (d .first-no .ensures) (c .if1 .taken)
 
 mul-row : tie.Need-mul-row Inv-loop μ-loop
-mul-row c = let h = array-copy-out-row c in omega (arith, h)
+mul-row c = let h = element-copy-out-row c in omega (arith, h)
 
 entry-of-requires : tie.Need-entry-of-requires Inv-loop μ-loop
-entry-of-requires c κs =
-    let y = c .before in
-    let d = taken y in
-    let k = inside d in
-    codes-fit (going (k .before)) _ (k .loop-test .taken) (at k) (here k) (d .before .first-no .result)
-    (d .before .first-no .ensures) (d .told .result) (d .told .ensures) (y .enum-told .given .1)
+entry-of-requires c κs = codes-fit ((inside (c .before .before)) .before .loop .inv)
 
 mul-enter : tie.Need-mul-enter Inv-loop μ-loop
-mul-enter c = omega (arith, room (inside (taken (c .before .before .before .before))))
+mul-enter c = omega (arith, room (inside (c .before .before .before .before .before)))
 
 sub-enter : tie.Need-sub-enter Inv-loop μ-loop
-sub-enter c = omega (arith, lent (inside (taken (c .before .before .before .before))))
+sub-enter c = omega (arith, lent (inside (c .before .before .before .before .before)))
 
 part-enter-start : tie.Need-part-enter-start Inv-loop μ-loop
 part-enter-start c = sub-enter c
@@ -204,55 +128,120 @@ part-enter-end c = search needs
 
 enter-requires : tie.Need-enter-requires Inv-loop μ-loop
 enter-requires c κs =
-    let y = c .before .before .before .before .before in
-    let d = taken y in
+    let o = c .before .before .before in
+    let y = o .before .before in
+    let d = y .before in
     let k = inside d in
-    turn-enters (going (k .before)) _ (k .loop-test .taken) (at k) (here k) (d .before .first-no .result)
-    (d .before .first-no .ensures) (d .told .result) (d .told .ensures) (y .enum-told .given .1)
-    (c .before .before .before .entry-of .ensures)
+    turn-enters (k .before .loop .inv) _ (k .loop-test .taken) (d .first-no .result) (d .first-no .ensures) (y .if1 .taken)
+    (at k) (here k) (o .entry-of .ensures)
 
--- with the member's lots and trades the sums stay small
-sums : (c : tie.After-enter Inv-loop μ-loop) →
-    let l = (inside (taken (c .before .before .before .before .before .before))) .before .loop in
-    (l .filled + c .enter .result .filled ≤ maxLots * maxMembers)
-    × (numbersPerTrade * (l .made + c .enter .result .trades) ≤ lentAtLeast)
-sums c =
-    let y = c .before .before .before .before .before .before in
-    let d = taken y in
+-- what the member's answer says, whichever way it came
+told : (c : tie.Joined1 Inv-loop μ-loop) →
+    let l = (inside (c .before)) .before .loop in
+    let j = c .if1 in
+    Tells (from (start ((inside (c .before)) .before))) (l .trades) (l .filled) (l .made) (l .i) (j .money) (j .pieces)
+    (j .trades) (j .book) (j .answer)
+told c =
+    let d = c .before in
     let k = inside d in
-    sums-fit (going (k .before)) _ (k .loop-test .taken) (at k) (here k) (d .before .first-no .result)
-    (d .before .first-no .ensures) (d .told .result) (d .told .ensures) (y .enum-told .given .1)
-    (c .before .before .before .before .entry-of .ensures) (c .enter .ensures)
+    ⊎-elim
+    (λ w.
+    rw (w .9, w .10, w .11, w .12, w .13)
+    (tells-done (k .before .loop .inv) _ (k .loop-test .taken) (d .first-no .result) (d .first-no .ensures) (w .0 .taken)
+    (at k) (here k) (w .2 .ensures) (w .6 .ensures)))
+    (λ w.
+    rw (w .1, w .2, w .3, w .4, w .5)
+    (tells-no (k .before .loop .inv) _ (k .loop-test .taken) (d .first-no .result) (d .first-no .ensures)
+    (omega (arith, w .0 .left))))
+    (c .if1 .came)
+
+enum-known-answer : tie.Need-enum-known-answer Inv-loop μ-loop
+enum-known-answer c = search needs
+
+enum-told : tie.Need-enum-told Inv-loop μ-loop
+enum-told c = search needs
+
+-- refused
+abbrev No : Type 0
+No = tie.After-enum-told Inv-loop μ-loop
+
+abbrev asked : No → tie.In-loop Inv-loop μ-loop
+asked c = inside (c .before .before .before)
+
+stops : (c : No) →
+    let l = (asked c) .before .loop in
+    (whole (from (start ((asked c) .before))) ≡ stopped (c .enum-told .given .0 .0) (c .enum-told .given .0 .1 .0))
+    × (c .before .before .if1 .trades ≡ l .trades)
+stops c =
+    let l = (asked c) .before .loop in
+    let j = c .before .before in
+    subst
+    (Tells (from (start ((asked c) .before))) (l .trades) (l .filled) (l .made) (l .i) (j .if1 .money) (j .if1 .pieces)
+    (j .if1 .trades) (j .if1 .book)) (c .enum-told .given .1) (told j)
+
+restore-requires : tie.Need-restore-requires Inv-loop μ-loop
+restore-requires c κs =
+    let k = asked (c .before) in
+    (omega (arith, room k), omega (arith, lent k, ap length ((stops (c .before)) .1)))
+
+same-length : tie.Need-same-length Inv-loop μ-loop
+same-length c =
+    let r = c .before .before in
+    let n = r .before .before in
+    r .restore .kept .1 .1 .0 ∙ ap length ((stops n) .1) ∙ turn-long ((asked n) .before .loop .inv)
+
+returns : tie.Need-returns Inv-loop μ-loop
+returns c =
+    let r = c .before .before in
+    let n = r .before .before in
+    let k = asked n in
+    rw (r .restore .ensures)
+    (turn-stops (k .before .loop .inv) _ _ _ (n .enum-told .given .1) _ (stops n) (at k) (here k) _
+    (k .before .before .before .before .saved .ensures))
+
+-- accepted
+abbrev Yes : Type 0
+Yes = tie.After-answer Inv-loop μ-loop
+
+goes : (c : Yes) →
+    let l = (inside (c .before .before .before)) .before .loop in
+    let j = c .before .before .if1 in
+    Turn (from (start ((inside (c .before .before .before)) .before))) (j .money) (j .pieces) (j .trades) (j .book)
+    (l .filled + c .answer .given .0 .1 .0) (l .made + c .answer .given .0 .1 .1 .1 .0) (l .i + 1)
+goes c =
+    let j = c .before .before in
+    let l = (inside (j .before)) .before .loop in
+    subst
+    (Tells (from (start ((inside (j .before)) .before))) (l .trades) (l .filled) (l .made) (l .i) (j .if1 .money)
+    (j .if1 .pieces) (j .if1 .trades) (j .if1 .book)) (c .answer .given .1) (told j)
 
 add-filled : tie.Need-add-filled Inv-loop μ-loop
-add-filled c = omega (arith, sums (c .before .before .before))
+add-filled c = omega (arith, turn-sums (goes (c .before)))
 
 add-made : tie.Need-add-made Inv-loop μ-loop
-add-made c = omega (arith, sums (c .before .before .before))
+add-made c = omega (arith, turn-sums (goes (c .before)))
 
 add-i : tie.Need-add-i Inv-loop μ-loop
-add-i c = omega (arith, place (inside (taken (c .before .before .before .before .before .before .before .before .before))))
+add-i c = omega (arith, place (inside (c .before .before .before .before)))
 
 loop-less : tie.Need-loop-less Inv-loop μ-loop
 loop-less c =
-    let k = inside (taken (c .before .before .before .before .before .before .before .before .before)) in
+    let k = inside (c .before .before .before .before) in
     omega (arith, k .loop-test .taken)
 
 loop-again : tie.Need-loop-again Inv-loop μ-loop
-loop-again c = λ q ready.
-    let e = c .before .before .before in
-    let y = e .before .before .before .before .before .before in
-    let d = taken y in
-    let k = inside d in
-    turn-next (k .before .loop .inv q ready) _ (k .loop-test .taken) (at k) (here k) (d .before .first-no .result)
-    (d .before .first-no .ensures) (d .told .result) (d .told .ensures) (y .enum-told .given .1)
-    (e .before .before .before .before .entry-of .ensures) (e .enter .ensures)
+loop-again c = goes (c .before)
+
+add-t53 : tie.Need-add-t53 Inv-loop μ-loop
+add-t53 c =
+    let b = start (c .before .before) in
+    omega (arith, code-before (from b) (b .pre))
 
 same-length-2 : tie.Need-same-length-2 Inv-loop μ-loop
-same-length-2 c = turn-long (going (c .before))
+same-length-2 c = turn-long (c .before .before .loop .inv)
 
 returns-2 : tie.Need-returns-2 Inv-loop μ-loop
-returns-2 c = λ q ready. turns-end (c .before .loop .inv q ready) (c .loop-test .left) _ refl
+returns-2 c = turns-end (c .before .before .loop .inv) (c .before .loop-test .left)
 
 pub members-in-turn-spec : {M : Type 1} → statement M
 members-in-turn-spec =
@@ -261,31 +250,30 @@ members-in-turn-spec =
     Inv-loop
     μ-loop
     saved-requires
-    add-first
     loop-holds
     mul-at
     mul-member
     array-copy-out-member
     first-no-requires
-    add-told
-    told-requires
-    enum-told
-    enum-told-2
-    restore-requires
-    same-length
-    returns
+    add-t39
     mul-row
-    array-copy-out-row
+    element-copy-out-row
     entry-of-requires
     mul-enter
     sub-enter
     part-enter-start
     part-enter-end
     enter-requires
+    enum-known-answer
+    enum-told
+    restore-requires
+    same-length
+    returns
     add-filled
     add-made
     add-i
     loop-less
     loop-again
+    add-t53
     same-length-2
     returns-2)
