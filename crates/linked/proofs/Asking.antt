@@ -1,9 +1,10 @@
 -- The questions of a member, on the parts of a sound day.
-use Prim.Native.Nat.{ℕ, _≤_, _<_}
+use Prim.Native.Nat.{ℕ, zero, suc, _≤_, _<_}
 use native.Mathlib.Omega.{arith}
-use mathlib.Core.Path.{_≡_, sym, _∙_}
+use mathlib.Core.Path.{_≡_, refl, sym, _∙_}
 use mathlib.Core.List.{List, [], _∷_, _++_}
 use mathlib.Core.Bool.{true, false}
+use lib.Dec.{T}
 use borrow.Author.Tests.{leb-true, ltb-true}
 use Rattle.market.specs.declared.Ticket.{Ticket}
 use Rattle.market.specs.declared.OrderBook.{OrderBook}
@@ -13,16 +14,25 @@ use Rattle.market.specs.declared.TimeInForce.the-variants.{FillOrKill}
 use Rattle.market.specs.Limits.{maxCodes, maxLots, maxSecurities, maxStep}
 use Rattle.market.specs.Day.{dayOf, row, turnoverAt}
 use Rattle.market.specs.Sound.{rowSound, rulesSound}
-use Rattle.market.specs.Questions.{Question, ask, firstNo}
+use Rattle.market.specs.Questions.{Question, ask, entryQuestions, firstNo}
 use Rattle.market.proofs.Logic.{and-true, below-all, within-high, within-low}
 use Rattle.market.proofs.Lists.{all-map}
-use Rattle.market.proofs.Questions.{AllYes, all-yes, hides, passes}
+use Rattle.market.proofs.Questions.{AllYes, all-yes, hides, passes, proper}
 use Rattle.market.proofs.Known.{OrderOk}
 use Rattle.market.proofs.View.{first-length}
 use Rattle.invariant.specs.Standing.{Standing}
 use Rattle.matching.specs.Orders.{FewLots, waitingIn}
 use Rattle.orders.specs.Entering.{Askable, earlyQuestions, entryWith, fillableIn, laterQuestions, orderNo}
-use Rattle.orders.proofs.Asking.{asked-in-parts}
+use Rattle.orders.proofs.Asking.{asked-in-parts, whole-last}
+
+-- lists with the same first "no" have it also with questions after them
+same-first : (qs ps rs : List Question) → T (proper qs) → T (proper ps) → firstNo qs ≡ firstNo ps
+    → firstNo (qs ++ rs) ≡ firstNo (ps ++ rs)
+same-first qs ps rs t u e = go (firstNo qs) refl
+  where
+    go : (n : ℕ) → firstNo qs ≡ n → firstNo (qs ++ rs) ≡ firstNo (ps ++ rs)
+    go zero h = passes qs rs (all-yes qs t h) ∙ sym (passes ps rs (all-yes ps u (sym e ∙ h)))
+    go (suc n) h = hides qs rs (omega arith) ∙ e ∙ sym (hides ps rs (omega arith))
 
 module _ (r : Rules) (x : Phase) (m k : List ℕ) (b : OrderBook) (standing : Standing (dayOf r x m k b)) (p : ℕ)
     (q : Ticket) where
@@ -40,7 +50,10 @@ module _ (r : Rules) (x : Phase) (m k : List ℕ) (b : OrderBook) (standing : St
   last = ask 15 (fillableIn FillOrKill (waitingIn b) (entryWith (b .codes) p q)) ∷ []
 
   in-parts : no ≡ firstNo (early ++ later ++ last)
-  in-parts = asked-in-parts r x m k b p q FillOrKill
+  in-parts =
+      whole-last r x m k b p q FillOrKill
+      ∙ same-first (entryQuestions (dayOf r x m k b) p q FillOrKill) (early ++ later) last tt tt
+      (asked-in-parts r x m k b p q FillOrKill)
 
   pub no-early : (n : ℕ) → 0 < n → n ≡ firstNo early → n ≡ no
   no-early n h e = e ∙ sym (in-parts ∙ hides early (later ++ last) (omega arith))
