@@ -1,18 +1,23 @@
 -- From a call on the parts of a State to its contract: refused with 1, refused otherwise, or accepted.
 use Prim.Native.Nat.{ℕ}
+use native.Mathlib.Omega.{arith}
+use lib.ListN.{length}
 use mathlib.Core.Path.{_≡_, refl, ap, sym, subst, _∙_}
-use mathlib.Core.List.{List}
+use mathlib.Core.List.{List, [], _∷_}
 use mathlib.Core.Bool.{false}
 use Rattle.market.specs.declared.Answer.{Answer}
 use Rattle.market.specs.declared.Answer.the-variants.{Done, Refused}
+use Rattle.market.specs.declared.Call as code
 use Rattle.market.specs.declared.Carried.{Carried}
+use Rattle.market.specs.declared.Outcome.{Outcome}
 use Rattle.market.specs.declared.State.{State}
+use Rattle.market.specs.declared.Ticket.{Ticket}
 use Rattle.market.specs.Day.{dayOf, view}
 use Rattle.market.specs.Sound.{sound}
 use Rattle.market.specs.Answers.{isDone}
-use Rattle.market.specs.Calls.{Call}
+use Rattle.market.specs.Calls.{Call, noTickets}
 use Rattle.market.specs.Step.{Reply, step}
-use Rattle.market.specs.Parts.{Carries, bookOf, rulesOf}
+use Rattle.market.specs.Parts.{Carries, bookOf, callOf, rulesOf}
 use Rattle.market.specs.Contract.{Does, HandedBack}
 use Rattle.market.proofs.Step.{refused-unchanged, step-unsound}
 
@@ -49,3 +54,9 @@ module _ (s : State) (l : List ℕ) (c : Call) where
       meets = record { answer = ea ∙ h .answer; state = day ∙ h .day; list = h .list };
       refusal = subst (λ (y : Answer). HandedBack s y z) (sym e) tt;
     }
+
+-- an empty list stays empty
+pub plain-does : {s : State} (c : code.Call) {ts : List Ticket} {o : Outcome} (l′ : List ℕ) → ts ≡ noTickets
+    → length l′ ≡ 0 → Does s [] (callOf c ts) o l′ → Does s [] (callOf c noTickets) o []
+plain-does {s} c {ts} {o} [] e n h = subst (λ (x : List Ticket). Does s [] (callOf c x) o []) e h
+plain-does c (x ∷ l) e n h = absurd (omega arith)

@@ -41,7 +41,7 @@ moveOf (moved.DecreaseMoney p c a) = decrease Money p c a
 moveOf (moved.IncreasePieces p s a) = increase Pieces p s a
 moveOf (moved.DecreasePieces p s a) = decrease Pieces p s a
 
-unfoldable pub callOf : code.Call → List Ticket → Call
+abbrev pub callOf : code.Call → List Ticket → Call
 callOf (coded.Reserve move) ms = moveOf move
 callOf (coded.Order p m force) ms = order p m force
 callOf (coded.Cancel p code) ms = cancel p code

@@ -1,6 +1,5 @@
 -- `calls::carry_out` meets its contract, call by call.
 use borrow.Author.Needs.{needs}
-use Rattle.market.specs.Parts.{callOf}
 use Rattle.reserves.proofs.Moving.{movable}
 use Rattle.calls.proofs.Lists.{any-list, cancel-listless, closing-listless, start-listless}
 use Rattle.calls.proofs.carry_out.Statement.{statement}
@@ -52,7 +51,6 @@ end-session-requires : tie.Need-end-session-requires
 end-session-requires c κs = search needs
 
 returns : tie.Need-returns
-unfolding callOf
 returns c =
     let k = c .before .before .before .before .before in
     rw (k .call .given .1, c .answer-of .ensures) (c .before .moved .ensures _ _ _ (k .before .before .before .pre .sound))
@@ -61,13 +59,11 @@ same-length : tie.Need-same-length
 same-length c = search needs
 
 returns-2 : tie.Need-returns-2
-unfolding callOf
 returns-2 c =
     let k = c .before .before in
     rw (k .before .before .before .before .before .call2 .given .1) (k .order .ensures)
 
 returns-3 : tie.Need-returns-3
-unfolding callOf
 returns-3 c =
     rw (c .before .before .before .before .call3 .given .1)
     (any-list _ _ _ _ _ _ _ (cancel-listless _ _) _ _ _ (c .cancel .ensures))
@@ -76,19 +72,16 @@ same-length-2 : tie.Need-same-length-2
 same-length-2 c = search needs
 
 returns-4 : tie.Need-returns-4
-unfolding callOf
 returns-4 c =
     let k = c .before .before in
     rw (k .before .before .before .before .before .call4 .given .1) (k .group .ensures)
 
 returns-5 : tie.Need-returns-5
-unfolding callOf
 returns-5 c =
     rw (c .before .before .before .enum-told .given .1)
     (any-list _ _ _ _ _ _ _ start-listless _ _ _ (c .start-closing .ensures))
 
 returns-6 : tie.Need-returns-6
-unfolding callOf
 returns-6 c =
     rw (c .before .before .before .before .call5 .given .1)
     (any-list _ _ _ _ _ _ _ (closing-listless _ _ _ _) _ _ _ (c .enter-closing-order .ensures))
@@ -97,7 +90,6 @@ same-length-3 : tie.Need-same-length-3
 same-length-3 c = search needs
 
 returns-7 : tie.Need-returns-7
-unfolding callOf
 returns-7 c =
     let k = c .before .before in
     rw (k .before .before .before .before .enum-told2 .given .1) (k .end-session .ensures)
