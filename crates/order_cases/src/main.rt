@@ -66,10 +66,10 @@ fn offered(money: u64) -> State {
 }
 
 fn positions(s: State) {
-    show::position(b"money of 0", s.money[0]);
-    show::position(b"money of 1", s.money[16]);
-    show::position(b"pieces of 0", s.pieces[0]);
-    show::position(b"pieces of 1", s.pieces[16]);
+    show::money(b"money of 0", s, 0);
+    show::money(b"money of 1", s, 16);
+    show::pieces(b"pieces of 0", s, 0);
+    show::pieces(b"pieces of 1", s, 16);
 }
 
 fn example() {
