@@ -97,3 +97,9 @@ module _ (says : Line) (ms : List Ticket) (r : Rules) (x : Phase) (m k : List �
     does-other m″ k″ l″ o carries =
         rw (other .2)
         (does-call r x m k b l (callOf c ms) m″ k″ l″ o ready lent (rw (other .0, other .1) at carries))
+
+-- where the ways of a command meet
+pub meet : (P : List ℕ → List ℕ → List ℕ → Carried → Type 0) {m m₁ k k₁ l l₁ : List ℕ} {b b₁ : OrderBook} {x x₁ : Phase}
+    {a a₁ : Answer} → m ≡ m₁ → k ≡ k₁ → l ≡ l₁ → b ≡ b₁ → x ≡ x₁ → a ≡ a₁
+    → P m₁ k₁ l₁ (record { answer = a₁; phase = x₁; book = b₁ }) → P m k l (record { answer = a; phase = x; book = b })
+meet P em ek el eb ex ea p = rw (em, ek, el, eb, ex, ea) p
