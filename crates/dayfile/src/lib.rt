@@ -1,58 +1,29 @@
 // A trading day from a day file: its commands are carried out one after another, and what they print is put into a lent
 // buffer.
-use calls::carry_out;
-use heading::MALFORMED;
+use commands::Stand;
+use commands::commands;
 use heading::heading_of;
-use lines::Line;
 use market::Answer;
-use market::Call;
-use market::Order;
-use market::OrderBook;
-use market::Phase;
-use market::Rules;
-use market::Security;
 use market::State;
-use market::Ticket;
-use market::TimeInForce;
-use market::Turnover;
 use market::book_of;
 use market::rules_of;
 use market::state_of;
-use orders::enter;
-use orders::entry_of;
-use orders::is_fillable;
-use orders::order_no;
+use opening::refused_opening;
 use printing::put_answer;
 use printing::put_positions;
-use printing::put_trades;
-use reading::command_at;
-use reserves::answer_of;
-use reserves::moved;
 ghost use mathlib.Core.Path.{_≡_};
-ghost use mathlib.Core.List.{_++_};
-ghost use mathlib.Core.Bool.{false, true};
-ghost use Prim.Native.Nat.{_+_, _<_, _≤_};
+ghost use mathlib.Core.Bool.{false};
+ghost use Prim.Native.Nat.{_+_, _≤_};
 ghost use lib.ListN.{length};
-ghost use Rattle.market.specs.Limits.{lentAtLeast, maxTrades};
-ghost use Rattle.market.specs.Day.{view};
-ghost use Rattle.market.specs.Sound.{sound};
-ghost use Rattle.market.specs.Answers.{isDone, numbersOf};
-ghost use Rattle.printing.specs.Buffer.{Puts};
-ghost use Rattle.printing.specs.Lines.{answerLine, flatLines};
-ghost use Rattle.dayfile.specs.Heading.{ReadsHeading, ReadsSecurities, WrongHeading};
-ghost use Rattle.dayfile.specs.Command.{Carries, carried};
-ghost use Rattle.dayfile.specs.Output.{maxText};
-ghost use Rattle.dayfile.specs.Run.{Begins, Continues, Fills, Going, Prints, TooLong, room};
+ghost use Rattle.market.specs.Answers.{isDone};
+ghost use Rattle.dayfile.specs.Run.{Begins, Fills, Going, Prints, TooLong, room};
 
 const TOO_LONG: u64 = 20;
-
-// Question 15.
-const UNFILLABLE: u64 = 15;
 
 const MAX_TEXT: usize = 65536;
 
 // What a command, or the last positions, take of the buffer at most.
-pub const ROOM: usize = 32768;
+pub const ROOM: usize = commands::ROOM;
 
 // A run of a day file: the state, the place where the text goes on and the number of its line there, how much of the
 // buffer is filled, and whether all is printed.
@@ -65,41 +36,50 @@ pub struct Run {
 }
 
 // Goes on with a run until it is over or the buffer has no room for another command.
-pub fn resume(text: &[u8], from: Run, out: &mut [u8]) -> Run {
+pub fn resume(text: &[u8], from: Run, out: &mut [u8]) -> Run
+    requires { ⌜ Going (now text) from ⌝ }
+    requires { ⌜ from .over ≡ false ⌝ }
+    requires { ⌜ from .filled + room ≤ length (now out) ⌝ }
+    ensures { λ r. ⌜ Fills (now (text .entry)) from (now (out .entry)) r (now (out .exit)) ⌝ }
+{
     let s = from.state;
     let rules = rules_of(s);
+    let book = book_of(s);
+    let phase = s.phase;
     let mut money = s.money;
     let mut pieces = s.pieces;
     let first = Stand {
-        book: book_of(s),
-        phase: s.phase,
+        book,
+        phase,
         at: from.at,
         line: from.line,
         filled: from.filled,
     };
     let last = commands(text, first, rules, &mut money, &mut pieces, out);
-    let mut filled = last.filled;
-    let over = text.len() <= last.at && filled <= out.len() - ROOM;
-    if over {
-        filled = put_positions(
-            out,
-            filled,
-            s.participants,
-            s.currencies,
-            s.securities,
-            &money,
-            &pieces,
-        );
-    }
-    let phase = last.phase;
-    let book = last.book;
-    Run {
-        state: state_of(s, phase, money, pieces, book),
+    let next = last.phase;
+    let after = last.book;
+    let mut r = Run {
+        state: state_of(s, next, money, pieces, after),
         at: last.at,
         line: last.line,
-        filled,
-        over,
+        filled: last.filled,
+        over: false,
+    };
+    if out.len() - ROOM < r.filled {
+        return r;
     }
+    // With room left, the commands stopped after the last of them.
+    r.filled = put_positions(
+        out,
+        r.filled,
+        s.participants,
+        s.currencies,
+        s.securities,
+        &money,
+        &pieces,
+    );
+    r.over = true;
+    r
 }
 
 fn is_done(answer: Answer) -> bool
@@ -116,7 +96,7 @@ fn too_long(out: &mut [u8]) -> Run
     requires { ⌜ room ≤ length (now out) ⌝ }
     ensures { λ r. ⌜ TooLong (now (out .entry)) r (now (out .exit)) ⌝ }
 {
-    let outcome = opening::refused_opening(TOO_LONG, 0);
+    let outcome = refused_opening(TOO_LONG, 0);
     let answer = outcome.answer;
     let filled = put_answer(out, 0, 0, answer);
     let state = outcome.state;
