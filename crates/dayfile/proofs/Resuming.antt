@@ -89,6 +89,7 @@ module _ {text before after m k : List ℕ} {x : Rules} {b : OrderBook} {last : 
     (rules : x ≡ rulesOf (from .state)) (book : b ≡ bookOf (from .state))
     (runs : Runs text x (from .state .money) (from .state .pieces) (standOf from b) before m k last after)
     (still : from .over ≡ false) (lent : from .filled + room ≤ length before) (z : State) where
+  -- by the run's own rules and order book
   h : Runs text (rulesOf (from .state)) (from .state .money) (from .state .pieces)
       (standOf from (bookOf (from .state))) before m k last after
   h = rw (rules, book) at runs
