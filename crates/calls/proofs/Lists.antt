@@ -8,7 +8,8 @@ use Rattle.market.specs.declared.OrderBook.{OrderBook}
 use Rattle.market.specs.declared.Phase.{Phase}
 use Rattle.market.specs.declared.Rules.{Rules}
 use Rattle.market.specs.declared.Side.{Side}
-use Rattle.market.specs.Day.{Day, dayOf}
+use Rattle.market.specs.Day.{Day}
+use Rattle.market.specs.View.{dayOf}
 use Rattle.market.specs.TradeList.{Trade, written}
 use Rattle.market.specs.Answers.{Result}
 use Rattle.market.specs.Calls.{Call, cancel, closingOrder, startClosing}

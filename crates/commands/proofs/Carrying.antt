@@ -18,7 +18,8 @@ use Rattle.market.specs.declared.TimeInForce.{TimeInForce}
 use Rattle.market.specs.declared.Turnover.{Turnover}
 use Rattle.market.specs.Limits.{lentAtLeast, maxSecurities, maxTrades}
 use Rattle.market.specs.Tests.{_and_, _≤?_}
-use Rattle.market.specs.Day.{Day, Sized, dayOf}
+use Rattle.market.specs.Day.{Day}
+use Rattle.market.specs.View.{Sized, dayOf}
 use Rattle.market.specs.Sound.{sound}
 use Rattle.market.specs.TradeList.{written}
 use Rattle.market.specs.Answers.{numbersOf, refused}

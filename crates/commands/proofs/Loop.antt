@@ -17,7 +17,8 @@ use Rattle.market.specs.declared.Security.{Security}
 use Rattle.market.specs.declared.Ticket.{Ticket}
 use Rattle.market.specs.declared.TimeInForce.{TimeInForce}
 use Rattle.market.specs.Limits.{lentAtLeast}
-use Rattle.market.specs.Day.{dayOf, row}
+use Rattle.market.specs.Day.{row}
+use Rattle.market.specs.View.{dayOf}
 use Rattle.market.specs.Questions.{entryQuestions, firstNo}
 use Rattle.market.specs.Parts.{Carries, Ready, callOf}
 use Rattle.lines.specs.declared.Line.{Line}

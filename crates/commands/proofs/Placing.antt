@@ -8,7 +8,8 @@ use Rattle.market.specs.declared.Answer.{Answer}
 use Rattle.market.specs.declared.Carried.{Carried}
 use Rattle.market.specs.declared.Rules.{Rules}
 use Rattle.market.specs.Limits.{lentAtLeast, maxTrades, numbersPerTrade}
-use Rattle.market.specs.Day.{Day, dayOf}
+use Rattle.market.specs.Day.{Day}
+use Rattle.market.specs.View.{dayOf}
 use Rattle.market.specs.Answers.{Result, numbersOf}
 use Rattle.reading.specs.declared.Reading.{Reading}
 use Rattle.reading.specs.Commands.{Reads}

@@ -13,7 +13,8 @@ use Rattle.market.specs.declared.TimeInForce.{TimeInForce}
 use Rattle.market.specs.declared.Turnover.{Turnover}
 use Rattle.market.specs.declared.Call.the-variants as call
 use Rattle.market.specs.Limits.{lentAtLeast}
-use Rattle.market.specs.Day.{dayOf, row}
+use Rattle.market.specs.Day.{row}
+use Rattle.market.specs.View.{dayOf}
 use Rattle.market.specs.Parts.{Ready}
 use Rattle.lines.specs.declared.Line.{Line}
 use Rattle.lines.specs.declared.Line.the-variants as line

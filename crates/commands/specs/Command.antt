@@ -7,7 +7,8 @@ use Rattle.market.specs.declared.Carried.{Carried}
 use Rattle.market.specs.declared.Rules.{Rules}
 use Rattle.market.specs.declared.Ticket.{Ticket}
 use Rattle.market.specs.Limits.{lentAtLeast, maxTrades}
-use Rattle.market.specs.Day.{Day, dayOf}
+use Rattle.market.specs.Day.{Day}
+use Rattle.market.specs.View.{dayOf}
 use Rattle.market.specs.TradeList.{written}
 use Rattle.market.specs.Answers.{Result, numbersOf, refused}
 use Rattle.market.specs.Calls.{Call}

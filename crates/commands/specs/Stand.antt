@@ -6,7 +6,7 @@ use mathlib.Core.Bool.{Bool, false}
 use lib.ListN.{drop, length, take}
 use Rattle.market.specs.declared.Rules.{Rules}
 use Rattle.market.specs.Tests.{_<?_, _≤?_, _and_}
-use Rattle.market.specs.Day.{dayOf}
+use Rattle.market.specs.View.{dayOf}
 use Rattle.market.specs.Parts.{Ready}
 use Rattle.heading.specs.Heading.{maxText}
 use Rattle.commands.specs.declared.Stand.{Stand}

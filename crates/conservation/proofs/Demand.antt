@@ -13,7 +13,8 @@ use Rattle.market.specs.Limits.{columns, maxSecurities, places, positionNumbers
 use Rattle.market.specs.Tests.{sumOf}
 use Rattle.market.specs.declared.Rules.{Rules}
 use Rattle.market.specs.Day.{Asset, Day, Money, Pieces, blockedAt, columnsOf, freeAt, noOrder, noTurnover, orderAt}
-use Rattle.market.specs.Day.{place, positions, totalLimit, view}
+use Rattle.market.specs.Day.{place, positions, totalLimit}
+use Rattle.market.specs.View.{view}
 use Rattle.market.specs.Needs.{needAt}
 use Rattle.market.specs.Positions.{total}
 use Rattle.market.specs.Sound.{needsAt}

@@ -7,7 +7,8 @@ use mathlib.Core.Bool.{true}
 use lib.ListN.{length}
 use Rattle.market.specs.Limits.{columns, places}
 use Rattle.market.specs.declared.Rules.{Rules}
-use Rattle.market.specs.Day.{Asset, Day, Money, Pieces, Sized, columnsOf, place, position, positions}
+use Rattle.market.specs.Day.{Asset, Day, Money, Pieces, columnsOf, place, position, positions}
+use Rattle.market.specs.View.{Sized}
 use Rattle.market.specs.Positions.{total}
 use Rattle.market.specs.Sound.{sound}
 use Rattle.market.proofs.Known.{RulesOk}

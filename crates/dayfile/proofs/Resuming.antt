@@ -10,7 +10,8 @@ use Rattle.market.specs.declared.OrderBook.{OrderBook}
 use Rattle.market.specs.declared.Rules.{Rules}
 use Rattle.market.specs.declared.State.{State}
 use Rattle.market.specs.Tests.{_<?_}
-use Rattle.market.specs.Day.{Day, Sized, dayOf, view}
+use Rattle.market.specs.Day.{Day}
+use Rattle.market.specs.View.{Sized, dayOf, view}
 use Rattle.market.specs.Parts.{bookOf, rulesOf}
 use Rattle.market.specs.Limits.{maxCurrencies, maxParticipants, maxSecurities}
 use Rattle.market.specs.Sound.{sound}

@@ -5,7 +5,7 @@ use mathlib.Core.Path.{subst}
 use mathlib.Core.List.{[], _∷_}
 use Rattle.market.proofs.State.{the-row as state-row, the-type as state-type}
 use Rattle.market.proofs.State.Laws.{the-laws as state-laws}
-use Rattle.market.specs.Day.{Sized, view}
+use Rattle.market.specs.View.{Sized, view}
 use Rattle.market.proofs.Sized.{sized}
 use Rattle.dayfile.proofs.Run.{the-row, the-type}
 use Rattle.dayfile.proofs.Run.Laws.{the-laws}

@@ -5,7 +5,7 @@ use mathlib.Core.List.{List, [], _++_}
 use mathlib.Core.Bool.{Bool, true, false}
 use lib.ListN.{drop, length, take}
 use Rattle.market.specs.declared.Answer.the-variants.{Refused}
-use Rattle.market.specs.Day.{view}
+use Rattle.market.specs.View.{view}
 use Rattle.market.specs.Sound.{sound}
 use Rattle.printing.specs.Buffer.{Puts}
 use Rattle.printing.specs.Lines.{answerLine}

@@ -12,7 +12,7 @@ use Rattle.market.specs.declared.Carried.{Carried}
 use Rattle.market.specs.declared.Outcome.{Outcome}
 use Rattle.market.specs.declared.State.{State}
 use Rattle.market.specs.declared.Ticket.{Ticket}
-use Rattle.market.specs.Day.{dayOf, view}
+use Rattle.market.specs.View.{dayOf, view}
 use Rattle.market.specs.Sound.{sound}
 use Rattle.market.specs.Answers.{isDone}
 use Rattle.market.specs.Calls.{Call, noTickets}

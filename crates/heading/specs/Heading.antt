@@ -8,7 +8,8 @@ use Rattle.market.specs.declared.Answer.{Answer}
 use Rattle.market.specs.declared.Answer.the-variants.{Refused}
 use Rattle.market.specs.declared.Security.{Security}
 use Rattle.market.specs.Limits.{maxSecurities}
-use Rattle.market.specs.Day.{Day, noSecurity, view}
+use Rattle.market.specs.Day.{Day, noSecurity}
+use Rattle.market.specs.View.{view}
 use Rattle.market.specs.Sound.{sound}
 use Rattle.market.specs.Answers.{isDone, numbersOf}
 use Rattle.market.specs.Opening.{noRules, opened, opening}

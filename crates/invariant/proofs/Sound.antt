@@ -10,7 +10,8 @@ use Rattle.market.specs.declared.Order.{Order}
 use Rattle.market.specs.Limits.{columns, maxLots, maxWaiting, positionNumbers}
 use Rattle.market.specs.Tests.{_=?_, _≤?_, allBelow}
 use Rattle.market.specs.declared.Rules.{Rules}
-use Rattle.market.specs.Day.{Asset, Day, Money, Pieces, Sized, columnsOf, place, position, positions}
+use Rattle.market.specs.Day.{Asset, Day, Money, Pieces, columnsOf, place, position, positions}
+use Rattle.market.specs.View.{Sized}
 use Rattle.market.specs.Day.{totalLimit, turnoverAt}
 use Rattle.market.specs.Codes.{given}
 use Rattle.market.specs.Positions.{totalAt}

@@ -12,7 +12,8 @@ use Rattle.market.specs.declared.Phase.{Phase}
 use Rattle.market.specs.declared.Rules.{Rules}
 use Rattle.market.specs.declared.TimeInForce.the-variants.{FillOrKill}
 use Rattle.market.specs.Limits.{maxCodes, maxLots, maxSecurities, maxStep}
-use Rattle.market.specs.Day.{dayOf, row, turnoverAt}
+use Rattle.market.specs.Day.{row, turnoverAt}
+use Rattle.market.specs.View.{dayOf}
 use Rattle.market.specs.Sound.{rowSound, rulesSound}
 use Rattle.market.specs.Questions.{Question, ask, entryQuestions, firstNo}
 use Rattle.market.proofs.Logic.{and-true, below-all, within-high, within-low}

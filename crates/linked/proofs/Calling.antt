@@ -14,7 +14,8 @@ use Rattle.market.specs.declared.Rules.{Rules}
 use Rattle.market.specs.declared.Ticket.{Ticket}
 use Rattle.market.specs.Limits.{lentAtLeast, maxMembers, minMembers}
 use Rattle.market.specs.Tests.{within}
-use Rattle.market.specs.Day.{Day, dayOf}
+use Rattle.market.specs.Day.{Day}
+use Rattle.market.specs.View.{dayOf}
 use Rattle.market.specs.TradeList.{written}
 use Rattle.market.specs.Answers.{Result}
 use Rattle.market.specs.Calls.{linked}

@@ -20,7 +20,8 @@ use Rattle.market.specs.declared.Rules.{Rules}
 use Rattle.market.specs.declared.TimeInForce.the-variants.{FillOrKill}
 use Rattle.market.specs.Limits.{lentAtLeast, maxCodes, maxLots, maxMembers, maxSecurities, maxWaiting, minMembers}
 use Rattle.market.specs.Limits.{numbersPerTrade}
-use Rattle.market.specs.Day.{Day, dayOf, row}
+use Rattle.market.specs.Day.{Day, row}
+use Rattle.market.specs.View.{dayOf}
 use Rattle.market.specs.TradeList.{Trade, written}
 use Rattle.market.specs.Answers.{Result, numbersOf}
 use Rattle.market.specs.Calls.{entryOf, linked}

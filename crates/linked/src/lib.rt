@@ -24,7 +24,7 @@ ghost use Prim.Native.Nat.{_≤_};
 ghost use lib.ListN.{drop, length, take};
 ghost use Rattle.market.specs.declared.TimeInForce.the-variants.{FillOrKill};
 ghost use Rattle.market.specs.Limits.{lentAtLeast};
-ghost use Rattle.market.specs.Day.{dayOf};
+ghost use Rattle.market.specs.View.{dayOf};
 ghost use Rattle.market.specs.Calls.{linked};
 ghost use Rattle.market.specs.Parts.{Carries, Ready};
 ghost use Rattle.invariant.specs.Standing.{Standing};

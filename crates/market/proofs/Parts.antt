@@ -10,7 +10,8 @@ use Rattle.market.specs.declared.Carried.{Carried}
 use Rattle.market.specs.declared.OrderBook.{OrderBook}
 use Rattle.market.specs.declared.Phase.{Phase}
 use Rattle.market.specs.declared.Rules.{Rules}
-use Rattle.market.specs.Day.{Day, dayOf}
+use Rattle.market.specs.Day.{Day}
+use Rattle.market.specs.View.{dayOf}
 use Rattle.market.specs.Sound.{sound}
 use Rattle.market.specs.TradeList.{written}
 use Rattle.market.specs.Calls.{Call}

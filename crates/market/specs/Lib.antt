@@ -1,6 +1,7 @@
 pub mod Limits
 pub mod Tests
 pub mod Day
+pub mod View
 pub mod Codes
 pub mod Needs
 pub mod Positions

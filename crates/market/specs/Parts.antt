@@ -13,7 +13,8 @@ use Rattle.market.specs.declared.Phase.{Phase}
 use Rattle.market.specs.declared.Rules.{Rules}
 use Rattle.market.specs.declared.State.{State}
 use Rattle.market.specs.declared.Ticket.{Ticket}
-use Rattle.market.specs.Day.{Money, Pieces, Sized, dayOf, view}
+use Rattle.market.specs.Day.{Money, Pieces}
+use Rattle.market.specs.View.{Sized, dayOf, view}
 use Rattle.market.specs.Sound.{sound}
 use Rattle.market.specs.Calls.{Call, cancel, closingOrder, decrease, endSession, increase, linked, order}
 use Rattle.market.specs.Calls.{startClosing}

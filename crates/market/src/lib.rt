@@ -3,7 +3,7 @@
 ghost use mathlib.Core.Path.{_≡_};
 ghost use Rattle.market.specs.declared.Answer.the-variants.{Done, Refused};
 ghost use Rattle.market.specs.Limits.{limitsInOrder};
-ghost use Rattle.market.specs.Day.{dayOf, view};
+ghost use Rattle.market.specs.View.{dayOf, view};
 ghost use Rattle.market.specs.Parts.{bookOf, rulesOf};
 ghost use Rattle.market.specs.Sound.{isClosing, isOpen};
 

@@ -9,7 +9,8 @@ use Rattle.market.specs.declared.Phase.the-variants.{Open}
 use Rattle.market.specs.declared.Security.{Security}
 use Rattle.market.specs.Limits.{numbersPerTrade}
 use Rattle.market.specs.declared.Rules.{Rules}
-use Rattle.market.specs.Day.{Day, dayOf, row, withLots}
+use Rattle.market.specs.Day.{Day, row, withLots}
+use Rattle.market.specs.View.{dayOf}
 use Rattle.market.specs.TradeList.{written}
 use Rattle.market.specs.Matching.{Filled, fill}
 use Rattle.invariant.specs.Standing.{InFlight}

@@ -6,7 +6,7 @@ use mathlib.Core.Bool.{true, false}
 use Rattle.market.specs.declared.Answer.the-variants.{Done}
 use Rattle.market.specs.declared.Outcome.{Outcome}
 use Rattle.market.specs.declared.Rules.{Rules}
-use Rattle.market.specs.Day.{view}
+use Rattle.market.specs.View.{view}
 use Rattle.market.specs.Sound.{countsSound}
 use Rattle.market.specs.Opening.{firstWrong, opened, opening}
 use Rattle.market.specs.Contract.{Opens}

@@ -14,7 +14,7 @@ use soundness::row_sound;
 ghost use mathlib.Core.Path.{_≡_};
 ghost use Prim.Native.Nat.{_≤_};
 ghost use Rattle.market.specs.Limits.{maxSecurities};
-ghost use Rattle.market.specs.Day.{view};
+ghost use Rattle.market.specs.View.{view};
 ghost use Rattle.market.specs.Opening.{firstWrong, opened as openedDay};
 ghost use Rattle.market.specs.Contract.{Opens};
 ghost use Rattle.opening.specs.Opening.{RefusedOpening};

@@ -14,7 +14,8 @@ use Rattle.market.specs.declared.TimeInForce.the-variants.{FillOrKill, Immediat
 use Rattle.market.specs.declared.Turnover.{Turnover}
 use Rattle.market.specs.Limits.{maxLots, maxPrice, maxSecurities, maxStep}
 use Rattle.market.specs.declared.Rules.{Rules}
-use Rattle.market.specs.Day.{Day, dayOf, row, turnoverAt}
+use Rattle.market.specs.Day.{Day, row, turnoverAt}
+use Rattle.market.specs.View.{dayOf}
 use Rattle.market.specs.Sound.{priceSound, rowSound, rulesSound}
 use Rattle.market.specs.Calls.{entryOf}
 use Rattle.market.specs.Questions.{Question, ask, entryQuestions, fillable, firstNo, orderQuestions, roomFor}

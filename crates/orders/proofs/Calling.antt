@@ -15,7 +15,8 @@ use Rattle.market.specs.declared.Rules.{Rules}
 use Rattle.market.specs.declared.TimeInForce.{TimeInForce}
 use Rattle.market.specs.declared.Phase.the-variants.{Open}
 use Rattle.market.specs.Limits.{lentAtLeast, maxCodes, maxLots, maxSecurities}
-use Rattle.market.specs.Day.{Day, dayOf, row}
+use Rattle.market.specs.Day.{Day, row}
+use Rattle.market.specs.View.{dayOf}
 use Rattle.market.specs.TradeList.{written}
 use Rattle.market.specs.Answers.{Result}
 use Rattle.market.specs.Calls.{Call, order}

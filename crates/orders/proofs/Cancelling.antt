@@ -13,7 +13,8 @@ use Rattle.market.specs.declared.Phase.{Phase}
 use Rattle.market.specs.declared.Rules.{Rules}
 use Rattle.market.specs.declared.Security.{Security}
 use Rattle.market.specs.Limits.{maxSecurities, maxWaiting}
-use Rattle.market.specs.Day.{Day, dayOf, row, orderAt}
+use Rattle.market.specs.Day.{Day, row, orderAt}
+use Rattle.market.specs.View.{dayOf}
 use Rattle.market.specs.Waiting.{Place, firstPlace, later, leave, nowhere, placeIn, placeOf, somewhere}
 use Rattle.market.specs.Calls.{cancel}
 use Rattle.market.specs.Questions.{questions}

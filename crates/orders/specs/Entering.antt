@@ -17,7 +17,8 @@ use Rattle.market.specs.declared.Turnover.{Turnover}
 use Rattle.market.specs.Limits.{columns, maxCodes, maxLot, maxLots, maxWaiting, numbersPerTrade}
 use Rattle.market.specs.Tests.{_<?_, _≤?_, known}
 use Rattle.market.specs.declared.Rules.{Rules}
-use Rattle.market.specs.Day.{Day, dayOf, row}
+use Rattle.market.specs.Day.{Day, row}
+use Rattle.market.specs.View.{dayOf}
 use Rattle.market.specs.Sound.{isOpen, lotsSound, priceSound}
 use Rattle.market.specs.TradeList.{written}
 use Rattle.market.specs.Answers.{Result}

@@ -14,7 +14,8 @@ use Rattle.market.specs.declared.Phase.the-variants.{Closing}
 use Rattle.market.specs.declared.Security.{Security}
 use Rattle.market.specs.Limits.{maxLots, maxSecurities, maxWaiting}
 use Rattle.market.specs.declared.Rules.{Rules}
-use Rattle.market.specs.Day.{Day, dayOf, firstOrders, turnoverAt, withCodes, withWaiting}
+use Rattle.market.specs.Day.{Day, turnoverAt, withCodes, withWaiting}
+use Rattle.market.specs.View.{dayOf, firstOrders}
 use Rattle.market.specs.Positions.{block, blockFor}
 use Rattle.market.specs.Questions.{closingQuestions, covered}
 use Rattle.market.specs.Entry.{admitted, placed}

@@ -15,7 +15,8 @@ use Rattle.market.specs.declared.Security.{Security}
 use Rattle.market.specs.declared.Side.{Side}
 use Rattle.market.specs.declared.Turnover.{Turnover}
 use Rattle.market.specs.Limits.{maxCodes, maxLots, maxPrice, maxSecurities}
-use Rattle.market.specs.Day.{Day, dayOf, row, turnoverAt}
+use Rattle.market.specs.Day.{Day, row, turnoverAt}
+use Rattle.market.specs.View.{dayOf}
 use Rattle.market.specs.Needs.{closingPrice}
 use Rattle.market.specs.Calls.{closingOrder}
 use Rattle.market.specs.Questions.{Question, closingQuestions, firstNo, questions}

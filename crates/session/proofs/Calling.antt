@@ -12,7 +12,8 @@ use Rattle.market.specs.declared.Phase.{Phase}
 use Rattle.market.specs.declared.Phase.the-variants.{Closed, Closing}
 use Rattle.market.specs.declared.Rules.{Rules}
 use Rattle.market.specs.Limits.{lentAtLeast}
-use Rattle.market.specs.Day.{Day, dayOf}
+use Rattle.market.specs.Day.{Day}
+use Rattle.market.specs.View.{dayOf}
 use Rattle.market.specs.Sound.{isClosing, isOpen}
 use Rattle.market.specs.Calls.{endSession, startClosing}
 use Rattle.market.specs.Questions.{questions}

@@ -14,7 +14,8 @@ use Rattle.market.specs.declared.Side.the-variants.{Buy, Sell}
 use Rattle.market.specs.declared.Turnover.{Turnover}
 use Rattle.market.specs.Limits.{maxCodes, maxLot, maxLots, maxPieces, maxPrice, maxSecurities, maxWaiting, numbersPerTrade}
 use Rattle.market.specs.declared.Rules.{Rules}
-use Rattle.market.specs.Day.{Asset, Day, Money, Pieces, dayOf, row, noOrder, orderAt, turnoverAt}
+use Rattle.market.specs.Day.{Asset, Day, Money, Pieces, row, noOrder, orderAt, turnoverAt}
+use Rattle.market.specs.View.{dayOf}
 use Rattle.market.specs.Needs.{limitOf, needAt, piecesOf, sumFor}
 use Rattle.market.specs.Positions.{settle}
 use Rattle.market.specs.TradeList.{lotsOf, tradeOf}

@@ -11,7 +11,8 @@ use Rattle.market.specs.declared.Phase.{Phase}
 use Rattle.market.specs.Limits.{maxSecurities, maxWaiting}
 use Rattle.market.specs.Tests.{removeAt}
 use Rattle.market.specs.declared.Rules.{Rules}
-use Rattle.market.specs.Day.{Day, dayOf, row, noOrder, orderAt, turnoverAt, withPhase, withWaiting}
+use Rattle.market.specs.Day.{Day, row, noOrder, orderAt, turnoverAt, withPhase, withWaiting}
+use Rattle.market.specs.View.{dayOf}
 use Rattle.market.specs.Needs.{needAt}
 use Rattle.market.specs.Positions.{release, releaseFor}
 use Rattle.market.specs.Waiting.{allLeave, leave, leaveFirst}

@@ -12,7 +12,8 @@ use Rattle.market.specs.declared.Phase.the-variants.{Closed, Closing}
 use Rattle.market.specs.declared.Security.{Security}
 use Rattle.market.specs.Limits.{maxWaiting, numbersPerTrade}
 use Rattle.market.specs.declared.Rules.{Rules}
-use Rattle.market.specs.Day.{Day, dayOf, row, turnoverAt}
+use Rattle.market.specs.Day.{Day, row, turnoverAt}
+use Rattle.market.specs.View.{dayOf}
 use Rattle.market.specs.Needs.{closingPrice}
 use Rattle.market.specs.Waiting.{allLeave}
 use Rattle.market.specs.TradeList.{Trade, lotsOf}

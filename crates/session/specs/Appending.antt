@@ -14,7 +14,8 @@ use Rattle.market.specs.declared.Turnover.{Turnover}
 use Rattle.market.specs.Limits.{maxCodes, maxWaiting}
 use Rattle.market.specs.Tests.{_<?_, known}
 use Rattle.market.specs.declared.Rules.{Rules}
-use Rattle.market.specs.Day.{dayOf, row}
+use Rattle.market.specs.Day.{row}
+use Rattle.market.specs.View.{dayOf}
 use Rattle.market.specs.Sound.{hasTraded, isClosing, lotsSound}
 use Rattle.market.specs.Answers.{Result}
 use Rattle.market.specs.Calls.{closingOf}

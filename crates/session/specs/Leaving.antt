@@ -6,7 +6,7 @@ use Rattle.market.specs.declared.OrderBook.{OrderBook}
 use Rattle.market.specs.declared.Phase.{Phase}
 use Rattle.market.specs.declared.Security.{Security}
 use Rattle.market.specs.declared.Rules.{Rules}
-use Rattle.market.specs.Day.{dayOf}
+use Rattle.market.specs.View.{dayOf}
 use Rattle.market.specs.Waiting.{allLeave}
 use Rattle.invariant.specs.Standing.{Standing}
 

@@ -13,7 +13,8 @@ use Rattle.market.specs.declared.Security.{Security}
 use Rattle.market.specs.Limits.{maxLots, maxWaiting, numbersPerTrade}
 use Rattle.market.specs.Tests.{_<?_}
 use Rattle.market.specs.declared.Rules.{Rules}
-use Rattle.market.specs.Day.{dayOf, row}
+use Rattle.market.specs.Day.{row}
+use Rattle.market.specs.View.{dayOf}
 use Rattle.market.specs.TradeList.{lotsOf, written}
 use Rattle.market.specs.Answers.{Result}
 use Rattle.market.specs.Closing.{Paired, Terms, closingTerms, endResult, pairs, pairsFrom}

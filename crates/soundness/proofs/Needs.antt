@@ -18,8 +18,10 @@ use Rattle.market.specs.declared.Turnover.{Turnover}
 use Rattle.market.specs.Limits.{columns, maxLot, maxLots, maxPieces, maxPrice, places}
 use Rattle.market.specs.Tests.{_=?_, allBelow, sumOf}
 use Rattle.market.specs.declared.Rules.{Rules}
-use Rattle.market.specs.Day.{Asset, Day, Money, Pieces, columnsOf, currencyOf, firstOrders, ifMoney, row}
-use Rattle.market.specs.Day.{noSecurity, orderAt, place, position, positions, totalLimit, view}
+use Rattle.market.specs.Day.{Asset, Day, Money, Pieces, columnsOf, currencyOf, ifMoney, row}
+use Rattle.market.specs.View.{firstOrders}
+use Rattle.market.specs.Day.{noSecurity, orderAt, place, position, positions, totalLimit}
+use Rattle.market.specs.View.{view}
 use Rattle.market.specs.Sound.{blockedSound, needsAt, orderSound, totalsSound}
 use Rattle.market.specs.Needs.{blocks, columnOf, limitOf, need, needAt, ofAsset, only, piecesOf, sumFor}
 use Rattle.market.proofs.Amounts.{only-same}

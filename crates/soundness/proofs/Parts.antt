@@ -18,7 +18,8 @@ use Rattle.market.specs.Limits.{columns, maxCurrencies, maxLot, maxLots, maxPar
 use Rattle.market.specs.Limits.{maxStep, maxWaiting}
 use Rattle.market.specs.Tests.{_and_, allOf, known}
 use Rattle.market.specs.declared.Rules.{Rules}
-use Rattle.market.specs.Day.{Day, Money, Pieces, currencyOf, row, turnoverAt, view}
+use Rattle.market.specs.Day.{Day, Money, Pieces, currencyOf, row, turnoverAt}
+use Rattle.market.specs.View.{view}
 use Rattle.market.specs.Codes.{given, numbered, rising}
 use Rattle.market.specs.Needs.{closingPrice, limitOf, priceOr}
 use Rattle.market.specs.Sound.{countsSound, kindSound, rowSound, lotsSound, orderSound, priceSound, rulesSound}

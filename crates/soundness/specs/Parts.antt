@@ -13,8 +13,10 @@ use Rattle.market.specs.declared.State.{State}
 use Rattle.market.specs.declared.Turnover.{Turnover}
 use Rattle.market.specs.Limits.{maxCurrencies, maxWaiting, places}
 use Rattle.market.specs.Tests.{_=?_, _and_, _≤?_, allBelow, allOf}
-use Rattle.market.specs.Day.{Asset, Day, Money, Pieces, firstOrders, ifMoney, row, place, position, turnoverAt}
-use Rattle.market.specs.Day.{view, withMoney, withPieces}
+use Rattle.market.specs.Day.{Asset, Day, Money, Pieces, ifMoney, row, place, position, turnoverAt}
+use Rattle.market.specs.View.{firstOrders}
+use Rattle.market.specs.Day.{withMoney, withPieces}
+use Rattle.market.specs.View.{view}
 use Rattle.market.specs.Codes.{codesSound, given, rising}
 use Rattle.market.specs.Positions.{totalAt}
 use Rattle.market.specs.Sound.{blockedSound, countsSound, rowSound, needsAt, orderSound, totalsSound, turnoverSound}

@@ -30,7 +30,8 @@ ghost use Prim.Native.Nat.{_+_, _<_, _≤_};
 ghost use lib.ListN.{getD, replicate};
 ghost use Rattle.market.specs.Limits.{columns as allColumns, maxCodes, maxParticipants, maxSecurities, places};
 ghost use Rattle.market.specs.Tests.{_and_, allBelow, known};
-ghost use Rattle.market.specs.Day.{noSecurity, turnoverAt, view};
+ghost use Rattle.market.specs.Day.{noSecurity, turnoverAt};
+ghost use Rattle.market.specs.View.{view};
 ghost use Rattle.market.specs.Sound.{countsSound, kindSound, rowSound, lotsSound, sound, turnoverSound};
 ghost use Rattle.soundness.specs.Parts.{Checked, columnSound, lentDay, needPlaceFor, orderly, ordersDay};
 

@@ -12,7 +12,8 @@ use Rattle.market.specs.declared.Turnover.{Turnover}
 use Rattle.market.specs.Limits.{maxSecurities, maxWaiting}
 use Rattle.market.specs.Tests.{removeAt}
 use Rattle.market.specs.declared.Rules.{Rules}
-use Rattle.market.specs.Day.{Day, dayOf, firstOrders, noOrder, orderAt, turnoverAt, withWaiting}
+use Rattle.market.specs.Day.{Day, noOrder, orderAt, turnoverAt, withWaiting}
+use Rattle.market.specs.View.{dayOf, firstOrders}
 use Rattle.market.specs.Needs.{needAt}
 use Rattle.market.specs.Positions.{release, releaseFor}
 use Rattle.market.specs.Waiting.{leave}

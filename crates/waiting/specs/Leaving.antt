@@ -6,7 +6,8 @@ use Rattle.market.specs.declared.OrderBook.{OrderBook}
 use Rattle.market.specs.declared.Phase.{Phase}
 use Rattle.market.specs.declared.Security.{Security}
 use Rattle.market.specs.declared.Rules.{Rules}
-use Rattle.market.specs.Day.{dayOf, row, orderAt}
+use Rattle.market.specs.Day.{row, orderAt}
+use Rattle.market.specs.View.{dayOf}
 use Rattle.market.specs.Waiting.{leave}
 use Rattle.invariant.specs.Standing.{Standing}
 

@@ -10,7 +10,7 @@ use Rattle.market.specs.declared.Carried.{Carried}
 use Rattle.market.specs.declared.OrderBook.{OrderBook}
 use Rattle.market.specs.declared.Phase.{Phase}
 use Rattle.market.specs.Limits.{lentAtLeast}
-use Rattle.market.specs.Day.{dayOf}
+use Rattle.market.specs.View.{dayOf}
 use Rattle.commands.specs.Command.{Does, carried}
 use Rattle.commands.specs.declared.Stand.{Stand}
 use Rattle.commands.specs.Stand.{Onward, room}

@@ -4,7 +4,7 @@ use native.Mathlib.Omega.{arith}
 use mathlib.Core.Path.{ap, sym, _∙_}
 use Rattle.market.specs.declared.Outcome.{Outcome}
 use Rattle.market.specs.Limits.{maxSecurities}
-use Rattle.market.specs.Day.{view}
+use Rattle.market.specs.View.{view}
 use Rattle.market.specs.Sound.{countsSound}
 use Rattle.market.proofs.Logic.{and-true, within-high}
 use Rattle.amounts.proofs.Answers.{fails, holds}

@@ -3,7 +3,7 @@ use Prim.Native.Nat.{_<_}
 use native.Mathlib.Omega.{arith}
 use mathlib.Core.Path.{_≡_, refl}
 use Rattle.market.specs.Limits.{maxSecurities}
-use Rattle.market.specs.Day.{dayOf}
+use Rattle.market.specs.View.{dayOf}
 use Rattle.market.specs.Questions.{entryQuestions, firstNo}
 use Rattle.amounts.proofs.Answers.{fails, holds}
 use Rattle.orders.proofs.Calling.{codes-given, enterable, few-lots, in-table, order-enters, refuse-first}

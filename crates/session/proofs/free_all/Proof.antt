@@ -8,7 +8,8 @@ use Rattle.market.specs.declared.Phase.{Phase}
 use Rattle.market.specs.declared.Security.{Security}
 use Rattle.market.specs.Limits.{maxSecurities, maxWaiting}
 use Rattle.market.specs.declared.Rules.{Rules}
-use Rattle.market.specs.Day.{dayOf, noSecurity, orderAt, turnoverAt}
+use Rattle.market.specs.Day.{noSecurity, orderAt, turnoverAt}
+use Rattle.market.specs.View.{dayOf}
 use Rattle.market.specs.Positions.{release}
 use Rattle.invariant.specs.Standing.{Standing}
 use Rattle.waiting.specs.Claims.{Freeable, moneyWith, piecesWith}
