@@ -1,9 +1,9 @@
 // Document 01's edge cases of order entry and cancellation, run on the engine: lot 10, step 5.
 use engine::cancel;
-use engine::enter_order;
 use engine::increase_money;
 use engine::increase_pieces;
 use engine::opening;
+use host::enter_order;
 use market::Outcome;
 use market::Security;
 use market::Side;

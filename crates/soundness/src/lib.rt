@@ -303,11 +303,3 @@ pub fn lent_sound<'a>(s: State, money: &'a [u64; 512], pieces: &'a [u64; 512]) -
         &needs,
     )
 }
-
-pub fn is_sound(s: State) -> bool
-    ensures { λ r. ⌜ r ≡ sound (view s) ⌝ }
-{
-    let money = s.money;
-    let pieces = s.pieces;
-    lent_sound(s, &money, &pieces)
-}
