@@ -1,11 +1,9 @@
 -- A pair that trades outside continuous trading keeps a day sound, whatever its terms; and what closing orders tell.
-use Prim.Native.Nat.{ℕ, _+_, _≤_, _<_}
-use native.Mathlib.Nat.{div-le-of-le-mul}
+use Prim.Native.Nat.{ℕ, _+_, _≤_}
 use native.Mathlib.Omega.{arith}
-use mathlib.Core.Path.{_≡_, refl, ap, sym, _∙_, subst}
+use mathlib.Core.Path.{_≡_, refl, sym, _∙_, subst}
 use mathlib.Core.List.{List, []}
 use mathlib.Core.Bool.{true}
-use lib.ListN.{length}
 use Rattle.market.specs.declared.Kind.{Kind}
 use Rattle.market.specs.declared.Kind.the-variants as kind
 use Rattle.market.specs.declared.Order.{Order}
@@ -13,15 +11,14 @@ use Rattle.market.specs.declared.Phase.{Phase}
 use Rattle.market.specs.declared.Phase.the-variants.{Closing}
 use Rattle.market.specs.declared.Side.the-variants.{Buy, Sell}
 use Rattle.market.specs.declared.Turnover.{Turnover}
-use Rattle.market.specs.Limits.{maxPrice}
 use Rattle.market.specs.Day.{Asset, Day, row, noOrder, orderAt, turnoverAt}
 use Rattle.market.specs.Codes.{codesOf, given}
-use Rattle.market.specs.Needs.{closingPrice, limitOf, needAt, priceOr}
+use Rattle.market.specs.Needs.{limitOf, needAt}
 use Rattle.market.specs.Positions.{settle}
-use Rattle.market.specs.Sound.{isOpen, kindSound, priceSound}
+use Rattle.market.specs.Sound.{isOpen, kindSound}
 use Rattle.market.specs.Matching.{lotsAt, reaches}
 use Rattle.market.specs.Closing.{Terms, closingTerms, pairedOff, takeBoth}
-use Rattle.market.proofs.Logic.{and-true, never, within-high}
+use Rattle.market.proofs.Logic.{and-true, never}
 use Rattle.market.proofs.Lists.{All, all-at, all-map}
 use Rattle.market.proofs.Needs.{need-falls, need-none}
 use Rattle.market.proofs.Known.{OrderOk}
@@ -31,7 +28,7 @@ use Rattle.invariant.proofs.Trade.{fallAt, trade-backed}
 use Rattle.invariant.proofs.Flight.{less-ok}
 
 -- while closing, closing orders wait, and no others
-pub kinds-closing : (d : Day) → d .phase ≡ Closing → (o : Order) → KindOk d o → o .kind ≡ kind.Closing
+kinds-closing : (d : Day) → d .phase ≡ Closing → (o : Order) → KindOk d o → o .kind ≡ kind.Closing
 kinds-closing d e o h = go (o .kind) h
   where
     go : (k : Kind)
@@ -40,21 +37,6 @@ kinds-closing d e o h = go (o .kind) h
     go (kind.Kept p) h =
         never (subst (λ (x : Phase). isOpen x ≡ true) e ((and-true h) .0))
     go kind.Closing h = refl
-
--- a kept order's price is in range, and so is T / Q
-pub limit-fits : {d : Day} → Standing d → (o : Order) → OrderOk (d .rules) o → KindOk d o
-    → limitOf (d .turnover) o ≤ maxPrice
-limit-fits {d} g o ok k = go (o .kind) k
-  where
-    go : (k : Kind)
-        → kindSound (d .phase) (row (d .rules) (o .security)) (turnoverAt (d .turnover) (o .security)) k ≡ true
-        → priceOr (closingPrice (turnoverAt (d .turnover) (o .security))) k ≤ maxPrice
-    go (kind.Kept p) h =
-        unfold priceSound in (within-high 1 maxPrice p ((and-true ((and-true h) .1)) .0))
-    go kind.Closing h =
-        unfold closingPrice in
-        (div-le-of-le-mul ((turnoverAt (d .turnover) (o .security)) .pieces)
-        (omega (arith, (g .turnovers (o .security) (ok .security)) .high)))
 
 -- the buys that the terms let in can pay their price
 abbrev pub FairTo : ℕ → Terms → List Turnover → Order → Type 0

@@ -7,15 +7,18 @@ use mathlib.Core.Bool.{true}
 use lib.ListN.{length}
 use borrow.Author.Tests.{eqb-true, eq-eqb, leb-true, ltb-true, le-leb, lt-ltb}
 use Rattle.market.specs.declared.Order.{Order}
+use Rattle.market.specs.declared.OrderBook.{OrderBook}
+use Rattle.market.specs.declared.Phase.{Phase}
 use Rattle.market.specs.Limits.{columns, maxLots, maxWaiting, positionNumbers}
 use Rattle.market.specs.Tests.{_=?_, _≤?_, allBelow}
 use Rattle.market.specs.declared.Rules.{Rules}
 use Rattle.market.specs.Day.{Asset, Day, Money, Pieces, columnsOf, place, position, positions}
-use Rattle.market.specs.View.{Sized}
+use Rattle.market.specs.View.{Sized, dayOf}
 use Rattle.market.specs.Day.{totalLimit, turnoverAt}
 use Rattle.market.specs.Codes.{given}
 use Rattle.market.specs.Positions.{totalAt}
 use Rattle.market.specs.Sound.{blockedSound, needsAt, orderSound, sound, totalsSound, turnoverSound}
+use Rattle.market.specs.Parts.{Ready}
 use Rattle.market.proofs.Logic.{and-true, below-all, below-intro, both, within-high, within-low}
 use Rattle.market.proofs.Lists.{all-and, all-test, test-all}
 use Rattle.market.proofs.Known.{OrderOk, RulesOk, rules-ok}
@@ -126,3 +129,6 @@ sound-standing d size e =
         held-own (d .rules) _ _ (d .money) _ ok (omega (arith, ok .currencies)) (size .money) bm tm
     held-each ok bm bp tm tp Pieces =
         held-own (d .rules) _ _ (d .pieces) _ ok (ok .securities) (size .pieces) bp tp
+
+pub ready-standing : {r : Rules} {x : Phase} {m k : List ℕ} {b : OrderBook} → Ready r x m k b → Standing (dayOf r x m k b)
+ready-standing {r} {x} {m} {k} {b} g = sound-standing (dayOf r x m k b) (g .sized) (g .sound)

@@ -7,7 +7,6 @@ use mathlib.Core.Path.{_≡_, refl, ap, sym, _∙_, subst}
 use mathlib.Core.List.{List, [], _∷_, _++_, append-nil}
 use lib.ListN.{length, take, drop, getD, drop-of-length-le, length-append, length-drop, length-take}
 use lib.Seq.{drop-cons, getD-take, length-take-le}
-use borrow.Author.Tests.{leb-true, ltb-true}
 use Rattle.market.specs.declared.Answer.{Answer}
 use Rattle.market.specs.declared.Answer.the-variants.{Done, Refused}
 use Rattle.market.specs.declared.Carried.{Carried}
@@ -15,7 +14,6 @@ use Rattle.market.specs.declared.Ticket.{Ticket}
 use Rattle.market.specs.declared.Order.{Order}
 use Rattle.market.specs.declared.OrderBook.{OrderBook}
 use Rattle.market.specs.declared.Phase.{Phase}
-use Rattle.market.specs.declared.Phase.the-variants.{Open}
 use Rattle.market.specs.declared.Rules.{Rules}
 use Rattle.market.specs.declared.TimeInForce.the-variants.{FillOrKill}
 use Rattle.market.specs.Limits.{lentAtLeast, maxCodes, maxLots, maxMembers, maxSecurities, maxWaiting, minMembers}
@@ -25,19 +23,17 @@ use Rattle.market.specs.View.{dayOf}
 use Rattle.market.specs.TradeList.{Trade, written}
 use Rattle.market.specs.Answers.{Result, numbersOf}
 use Rattle.market.specs.Calls.{entryOf, linked}
-use Rattle.market.specs.Questions.{orderQuestions}
 use Rattle.market.specs.Entry.{entered}
 use Rattle.market.specs.Linked.{Group, members, passed, stopped}
 use Rattle.market.specs.Parts.{Carries}
 use Rattle.market.proofs.Logic.{within-high}
-use Rattle.market.proofs.Questions.{all-yes, yes}
-use Rattle.market.proofs.Known.{open-phase}
 use Rattle.market.proofs.View.{first-length}
 use Rattle.invariant.specs.Standing.{Standing}
-use Rattle.invariant.proofs.Sound.{sound-standing}
+use Rattle.invariant.proofs.Sound.{ready-standing}
 use Rattle.invariant.proofs.Whole.{whole-few, whole-standing}
 use Rattle.matching.specs.Filling.{openDay}
 use Rattle.orders.specs.Entering.{Accepts, Enterable, EntersAs, entryWith, orderNo}
+use Rattle.orders.proofs.Answered.{accepts, codes-given, few-lots, in-table, opens, same-day}
 use Rattle.linked.specs.Group.{Groupable}
 use Rattle.linked.proofs.Calling.{group-carries}
 use Rattle.linked.proofs.Lent.{lentFrom, put-back, returned, returned-written, written-length}
@@ -97,13 +93,13 @@ Tells s l filled made i m1 k1 l1 b1 (Done code lots left number) =
 
 module _ (s : From) (able : GroupableFrom s) where
   standing-before : Standing (dayBefore s)
-  standing-before = sound-standing (dayBefore s) (able .ready .sized) (able .ready .sound)
+  standing-before = ready-standing (able .ready)
 
   few-before : s .book .count ≤ maxWaiting
-  few-before = omega (arith, standing-before .room, first-length (s .book .count) (s .book .orders))
+  few-before = (few-lots (s .rules) (s .phase) (s .money) (s .pieces) (s .book) standing-before) .room
 
   pub code-before : s .book .codes ≤ maxCodes
-  code-before = leb-true (s .book .codes) maxCodes (standing-before .limit)
+  code-before = codes-given (s .rules) (s .phase) (s .money) (s .pieces) (s .book) standing-before
 
   pub few-members : s .count ≤ maxMembers
   few-members = within-high minMembers maxMembers (s .count) (able .few)
@@ -146,7 +142,7 @@ module _ {s : From} {m k l : List ℕ} {b : OrderBook} {filled made i : ℕ} (t 
       rw (add-one, drop-cons (taken s) i z, getD-take (s .count) (s .members) i z)
 
   pub codes-fit : b .codes ≤ maxCodes
-  codes-fit = leb-true (b .codes) maxCodes (t .stays .limit)
+  codes-fit = codes-given (s .rules) (s .phase) m k b (t .stays)
 
   -- a turn of member q, which is asked number n
   module _ (z : Ticket) (h : i < s .count) where
@@ -175,49 +171,24 @@ module _ {s : From} {m k l : List ℕ} {b : OrderBook} {filled made i : ℕ} (t 
         asked : orderNo d (s .owner) q FillOrKill ≡ 0
         asked = sym en ∙ none
 
-        opens : s .phase ≡ Open
-        unfolding orderQuestions
-        opens =
-            let qs = orderQuestions d (s .owner) q FillOrKill in
-            open-phase (s .phase) (yes 6 qs (all-yes qs tt asked))
-
         pub known : q .security < maxSecurities
-        unfolding orderQuestions
-        known =
-            let qs = orderQuestions d (s .owner) q FillOrKill in
-            omega (
-              arith,
-              ltb-true (q .security) (s .rules .securities) (yes 5 qs (all-yes qs tt asked)),
-              t .stays .backed .rulesOk .securities,
-            )
-
-        same-day : d ≡ openDay (s .rules) m k b
-        same-day = ap (λ (x : Phase). dayOf (s .rules) x m k b) opens
+        known = in-table (s .rules) (s .phase) m k b (t .stays) (s .owner) q FillOrKill asked
 
         abbrev e : Order
         e = entryWith (b .codes) (s .owner) q
 
-        accepts : Accepts (s .rules) (row (s .rules) (q .security)) b e FillOrKill m k
-        accepts = record {
-          row = refl;
-          standing = subst Standing same-day (t .stays);
-          participant = s .owner;
-          member = q;
-          entry = refl;
-          asked = ap (λ (x : Day). orderNo x (s .owner) q FillOrKill) (sym same-day) ∙ asked;
-        }
+        accepted : {o : Order} → o ≡ e → Accepts (s .rules) (row (s .rules) (q .security)) b o FillOrKill m k
+        accepted = accepts (s .rules) (s .phase) m k b (t .stays) (s .owner) q FillOrKill asked
 
         -- the list is lent from here on
         module _ (at : ℕ) (here : at ≡ numbersPerTrade * made) where
           pub turn-enters : {o : Order} → o ≡ e
               → Enterable (row (s .rules) (q .security)) b o FillOrKill m k (lentFrom l at)
-          turn-enters eo =
-              rw eo
-              (record {
-                rules = s .rules;
-                accepts = accepts;
-                lent = simp (length-take, length-drop) (omega (arith, turn-room h, turn-long, t .able .lent));
-              })
+          turn-enters eo = record {
+            rules = s .rules;
+            accepts = accepted eo;
+            lent = simp (length-take, length-drop) (omega (arith, turn-room h, turn-long, t .able .lent));
+          }
 
           abbrev result : Result
           result = entered d (entryOf d (s .owner) q) FillOrKill
@@ -228,11 +199,14 @@ module _ {s : From} {m k l : List ℕ} {b : OrderBook} {filled made i : ℕ} (t 
               → EntersAs (entered (openDay r m k b) o FillOrKill) r (lentFrom l at) m1 k1 part b1) where
             done : EntersAs result (s .rules) (lentFrom l at) m1 k1 part b1
             done =
-                subst (λ (x : Day). EntersAs (entered x e FillOrKill) (s .rules) (lentFrom l at) m1 k1 part b1) (sym same-day)
-                ((rw eo at enters) (s .rules) accepts)
+                let same = same-day (s .rules) (s .phase) m k b (t .stays) (s .owner) q FillOrKill asked in
+                subst (λ (x : Day). EntersAs (entered x e FillOrKill) (s .rules) (lentFrom l at) m1 k1 part b1) (sym same)
+                (rw (← eo) (enters (s .rules) (accepted eo)))
 
             day-is : dayAt s m1 k1 b1 ≡ result .day
-            day-is = ap (λ (x : Phase). dayOf (s .rules) x m1 k1 b1) opens ∙ done .day
+            day-is =
+                let phase = opens (s .rules) (s .phase) m k b (t .stays) (s .owner) q FillOrKill asked in
+                ap (λ (x : Phase). dayOf (s .rules) x m1 k1 b1) phase ∙ done .day
 
             lots-is : b1 .filled ≡ (numbersOf (result .answer)) .filled
             lots-is = ap (λ (x : Answer). (numbersOf x) .filled) (done .answer)
@@ -253,8 +227,8 @@ module _ {s : From} {m k l : List ℕ} {b : OrderBook} {filled made i : ℕ} (t 
 
             list-after : returned l at part ≡ written (t .trades ++ result .trades) (s .list)
             list-after =
-                returned-written (s .list) l part (t .trades) (result .trades) at (omega (arith, t .number))
-                (omega (arith, turn-sums .1, t .able .lent)) (t .list) (done .list)
+                returned-written (s .list) l part (t .trades) (result .trades) at (omega (arith, t .number)) (t .list)
+                (done .list)
 
             pub tells-done : Tells s l filled made i m1 k1 (returned l at part) b1
                 (Done (b1 .codes) (b1 .filled) (b1 .left) (b1 .trades))

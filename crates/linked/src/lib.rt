@@ -13,11 +13,10 @@ use market::Ticket;
 use market::TimeInForce;
 use market::declined;
 use matching::NUMBERS_PER_TRADE;
-use orders::early_no;
 use orders::enter;
 use orders::entry_of;
 use orders::is_fillable;
-use orders::later_no;
+use orders::order_no;
 ghost use mathlib.Core.Path.{_≡_};
 ghost use mathlib.Core.List.{_++_};
 ghost use Prim.Native.Nat.{_≤_};
@@ -70,33 +69,22 @@ fn first_no<'a>(
     requires { ⌜ Standing (dayOf rules phase (now money) (now pieces) book) ⌝ }
     ensures { λ r. ⌜ r ≡ orderNo (dayOf rules phase (now (money .entry)) (now (pieces .entry)) book) participant member FillOrKill ⌝ }
 {
-    let early = early_no(
-        rules.participants,
-        rules.securities,
-        phase,
-        participant,
-        member,
-    );
-    if 0 < early {
-        return early;
-    }
-    let security = member.security as usize;
-    let row = rules.table[security];
-    let turnover = book.turnover[security];
+    let turnovers = book.turnover;
     let force = TimeInForce::FillOrKill;
-    let later = later_no(
-        money,
-        pieces,
-        row,
-        turnover,
+    let number = order_no(
+        rules,
+        phase,
+        turnovers,
         book.count,
         book.codes,
+        money,
+        pieces,
         participant,
         member,
         force,
     );
-    if 0 < later {
-        return later;
+    if 0 < number {
+        return number;
     }
     let entry = entry_of(book.codes, participant, member);
     if !is_fillable(book, force, entry) {

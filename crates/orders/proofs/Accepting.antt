@@ -25,7 +25,7 @@ use Rattle.market.proofs.Logic.{within-high}
 use Rattle.market.proofs.Questions.{all-yes, yes}
 use Rattle.market.proofs.Needs.{kept-limit}
 use Rattle.market.proofs.Known.{is-kept, kept-price}
-use Rattle.market.proofs.View.{first-length}
+use Rattle.market.proofs.View.{first-append, first-length}
 use Rattle.invariant.specs.Standing.{InFlight, PricedOk}
 use Rattle.invariant.proofs.Flight.{FewTrades, fill-few, fill-flight}
 use Rattle.invariant.proofs.Entry.{flight-starts}
@@ -34,7 +34,7 @@ use Rattle.matching.specs.Orders.{coded, waitingIn}
 use Rattle.waiting.specs.Claims.{Blockable, Freeable, moneyWith, piecesWith}
 use Rattle.waiting.proofs.Days.{blocks, day-moved, frees}
 use Rattle.orders.specs.Entering.{Accepts, EntersAs}
-use Rattle.orders.proofs.Finishing.{day-done, day-waits, first-append, part-frees, waits-part}
+use Rattle.orders.proofs.Finishing.{day-done, day-waits, part-frees, waits-part}
 
 -- what its questions tell of an entry
 record Passed (d : Day) (e : Order) (f : TimeInForce) : Type 0 where

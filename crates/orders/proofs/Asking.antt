@@ -52,7 +52,7 @@ module _ (r : Rules) (x : Phase) (money pieces : List ℕ) (b : OrderBook) (p : 
   room-is FillOrKill = refl
 
   -- those from 4 to 14
-  pub asked-in-parts : firstNo (entryQuestions d p m k)
+  asked-in-parts : firstNo (entryQuestions d p m k)
       ≡ firstNo (earlyQuestions (r .participants) (r .securities) x p m
       ++ laterQuestions (row r (m .security)) (turnoverAt (b .turnover) (m .security)) (b .count) (b .codes) p m k money pieces)
   asked-in-parts = rw (room-is k, covered-is d (row r (m .security)) (entryWith (b .codes) p m) refl)

@@ -23,11 +23,11 @@ use Rattle.market.specs.Parts.{Carries, Ready}
 use Rattle.market.proofs.Parts.{carries-accept, carries-refuse}
 use Rattle.market.proofs.View.{first-length}
 use Rattle.invariant.specs.Standing.{Standing}
-use Rattle.invariant.proofs.Sound.{sound-standing}
+use Rattle.invariant.proofs.Sound.{ready-standing}
 use Rattle.matching.specs.Orders.{waitingIn}
 use Rattle.waiting.specs.Leaving.{Holds, Leavable, Leaves}
 use Rattle.waiting.proofs.Leaving.{leaver-known}
-use Rattle.orders.proofs.Calling.{few-lots}
+use Rattle.orders.proofs.Answered.{few-lots}
 
 -- a place that is found is in the list
 abbrev Inside : ℕ → Place → Type 0
@@ -52,7 +52,7 @@ module _ (r : Rules) (x : Phase) (m k : List ℕ) (b : OrderBook) (p c : ℕ) (r
   declines n = Carries r x m k b [] (cancel p c) m k [] (record { answer = Refused n 0; phase = x; book = b })
 
   standing : Standing d
-  standing = sound-standing d (ready .sized) (ready .sound)
+  standing = ready-standing ready
 
   pub cancel-unknown : r .participants ≤ p → declines 4
   unfolding questions
@@ -74,7 +74,7 @@ module _ (r : Rules) (x : Phase) (m k : List ℕ) (b : OrderBook) (p c : ℕ) (r
         omega (arith, first-length (b .count) (b .orders))
 
     pub found-inside : i < maxWaiting
-    found-inside = omega (arith, found-waits, (few-lots r x m k b ready) .room)
+    found-inside = omega (arith, found-waits, (few-lots r x m k b standing) .room)
 
     abbrev l : Security
     l = row r ((orderAt (b .orders) i) .security)

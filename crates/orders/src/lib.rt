@@ -86,7 +86,7 @@ pub fn is_fillable(book: OrderBook, force: TimeInForce, entry: Order) -> bool
 }
 
 // The first "no" of questions 4 to 7, which ask for no row of the table; 0 where there is none.
-pub fn early_no(
+fn early_no(
     participants: u64,
     securities: u64,
     phase: Phase,
@@ -111,7 +111,7 @@ pub fn early_no(
 }
 
 // The first "no" of questions 8 and 12 to 14; 0 where there is none.
-pub fn later_no<'a>(
+fn later_no<'a>(
     money: &'a [u64; 512],
     pieces: &'a [u64; 512],
     row: Security,

@@ -1,12 +1,10 @@
 -- A closing order that passed its questions, step by step on the parts of the day.
 use Prim.Native.Nat.{ℕ, _+_, _<_}
-use native.Mathlib.Numerals.{add-one}
 use native.Mathlib.Omega.{arith}
 use mathlib.Core.Path.{_≡_, refl, ap, sym, _∙_, subst}
 use mathlib.Core.List.{List, [], _∷_, _++_}
 use mathlib.Core.Bool.{true}
-use lib.ListN.{length, length-set, set, take}
-use lib.Seq.{take-suc-set}
+use lib.ListN.{length, set}
 use borrow.Author.Tests.{ltb-true}
 use Rattle.market.specs.declared.Order.{Order}
 use Rattle.market.specs.declared.OrderBook.{OrderBook}
@@ -15,28 +13,20 @@ use Rattle.market.specs.declared.Security.{Security}
 use Rattle.market.specs.Limits.{maxLots, maxSecurities, maxWaiting}
 use Rattle.market.specs.declared.Rules.{Rules}
 use Rattle.market.specs.Day.{Day, turnoverAt, withCodes, withWaiting}
-use Rattle.market.specs.View.{dayOf, firstOrders}
+use Rattle.market.specs.View.{dayOf}
 use Rattle.market.specs.Positions.{block, blockFor}
 use Rattle.market.specs.Questions.{closingQuestions, covered}
 use Rattle.market.specs.Entry.{admitted, placed}
 use Rattle.market.proofs.Logic.{both, within-high, within-low}
 use Rattle.market.proofs.Questions.{all-yes, yes}
 use Rattle.market.proofs.Known.{OrderOk}
-use Rattle.market.proofs.View.{first-length, first-take}
+use Rattle.market.proofs.View.{first-append, first-length}
 use Rattle.invariant.specs.Standing.{KindOk}
-use Rattle.invariant.proofs.Pairing.{limit-fits}
+use Rattle.invariant.proofs.Whole.{limit-fits}
 use Rattle.matching.specs.Orders.{waitingIn}
 use Rattle.waiting.specs.Claims.{Blockable, moneyWith, piecesWith}
 use Rattle.waiting.proofs.Days.{blocks, day-moved}
 use Rattle.session.specs.Appending.{Admits, AppendedAs}
-
-first-append : (n : ℕ) (w : List Order) (o : Order) → n < length w
-    → firstOrders (n + 1) (set w n o) ≡ firstOrders n w ++ (o ∷ [])
-first-append n w o h =
-    first-take (n + 1) (set w n o) (omega (arith, length-set w n o))
-    ∙ ap (λ (k : ℕ). take k (set w n o)) (add-one n)
-    ∙ take-suc-set w n o h
-    ∙ ap (λ (r : List Order). r ++ (o ∷ [])) (sym (first-take n w (omega arith)))
 
 -- what its questions tell of the order
 record Passed (d : Day) (o : Order) : Type 0 where
@@ -82,7 +72,7 @@ module _ {r : Rules} {l : Security} {b : OrderBook} {o : Order} {m k : List ℕ}
   append-blocks =
       let p = passed in
       blocks d l o (a .row) [] (a .standing .backed) (p .ok .participant) (p .ok .security)
-      (limit-fits (a .standing) o (p .ok) (p .kind)) (p .ok .top) (p .covers)
+      (limit-fits d (a .standing) o (p .ok) (p .kind)) (p .ok .top) (p .covers)
 
   pub append-done : {m′ k′ : List ℕ} → b .count < length (b .orders)
       → m′ ≡ moneyWith block l (turnoverAt (b .turnover) (o .security)) o m

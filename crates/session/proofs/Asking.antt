@@ -29,11 +29,11 @@ use Rattle.market.proofs.Questions.{AllYes, all-yes, hides, passes}
 use Rattle.market.proofs.Parts.{carries-accept, carries-refuse}
 use Rattle.market.proofs.View.{first-length}
 use Rattle.invariant.specs.Standing.{Standing}
+use Rattle.invariant.proofs.Sound.{ready-standing}
 use Rattle.waiting.specs.Claims.{Reckonable}
 use Rattle.waiting.proofs.Days.{covered-is, reckons}
 use Rattle.session.specs.Appending.{Admits, AppendedAs, Appendable, Appends, closingWith, earlyClosing}
 use Rattle.session.specs.Appending.{laterClosing}
-use Rattle.session.proofs.Calling.{ready-standing}
 
 module _ {r : Rules} {x : Phase} {m k : List ℕ} {b : OrderBook} (g : Ready r x m k b) (p : ℕ) (side : Side) (s n : ℕ)
   where

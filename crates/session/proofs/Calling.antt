@@ -22,7 +22,7 @@ use Rattle.market.specs.Parts.{Carries, Ready}
 use Rattle.market.proofs.Known.{closing-phase}
 use Rattle.market.proofs.Parts.{carries-accept, carries-refuse}
 use Rattle.invariant.specs.Standing.{Standing}
-use Rattle.invariant.proofs.Sound.{sound-standing}
+use Rattle.invariant.proofs.Sound.{ready-standing}
 use Rattle.session.specs.Leaving.{AllLeft, Leavable, emptied}
 use Rattle.session.specs.Pairing.{Closable, Closes, Ends, EndsAs}
 use Rattle.session.proofs.Leaving.{count-room}
@@ -31,11 +31,8 @@ module _ {r : Rules} {x : Phase} {m k : List ℕ} {b : OrderBook} (g : Ready r x
   abbrev d : Day
   d = dayOf r x m k b
 
-  pub ready-standing : Standing d
-  ready-standing = sound-standing d (g .sized) (g .sound)
-
   pub leavable : Leavable (r .table) b m k
-  leavable = record { rules = r; phase = x; table = refl; standing = ready-standing }
+  leavable = record { rules = r; phase = x; table = refl; standing = ready-standing g }
 
   pub start-refused : isOpen x ≡ false
       → Carries r x m k b [] startClosing m k [] (record { answer = Refused 6 0; phase = x; book = b })
@@ -48,7 +45,7 @@ module _ {r : Rules} {x : Phase} {m k : List ℕ} {b : OrderBook} (g : Ready r x
   unfolding questions effect
   started {m′} {k′} opens left =
       carries-accept r x m k b [] startClosing (g .sound) m′ k′ [] _ (rw opens) refl
-      (left r x Closing refl ready-standing) refl
+      (left r x Closing refl (ready-standing g)) refl
 
   module _ (v : List ℕ) where
     pub end-unlent : length v < lentAtLeast
@@ -71,14 +68,14 @@ module _ {r : Rules} {x : Phase} {m k : List ℕ} {b : OrderBook} (g : Ready r x
         closes = record {
           securities = refl;
           table = refl;
-          standing = subst (λ (y : Phase). Standing (dayOf r y m k b)) shut ready-standing;
+          standing = subst (λ (y : Phase). Standing (dayOf r y m k b)) shut (ready-standing g);
         }
 
         pub closable : Closable (r .securities) (r .table) b m k v
         closable = record {
           rules = r;
           closes = closes;
-          lent = omega (arith, lent, count-room b (ready-standing .room));
+          lent = omega (arith, lent, count-room b ((ready-standing g) .room));
         }
 
         pub ended : {m′ k′ v′ : List ℕ} (b′ : OrderBook) → Ends (r .securities) (r .table) b m k v m′ k′ v′ b′

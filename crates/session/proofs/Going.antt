@@ -28,7 +28,8 @@ use Rattle.market.proofs.Matching.{Chosen, best-chosen}
 use Rattle.market.proofs.Pairs.{Meeting, meet-apart, meets, pairs-no-buy, pairs-no-sell, pairs-one}
 use Rattle.market.proofs.View.{first-length}
 use Rattle.invariant.specs.Standing.{KindOk, Standing, needsOf}
-use Rattle.invariant.proofs.Pairing.{Fair, FairTo, limit-fits, pair-standing, pair-two}
+use Rattle.invariant.proofs.Whole.{limit-fits}
+use Rattle.invariant.proofs.Pairing.{Fair, FairTo, pair-standing, pair-two}
 use Rattle.matching.specs.Execution.{Countable, Executable, Executes}
 use Rattle.matching.specs.Orders.{waitingIn}
 use Rattle.matching.specs.Written.{tradeWritten}
@@ -194,7 +195,7 @@ module _ {g : Start} {m k v : List ℕ} {b : OrderBook} {made : ℕ} (h : Going 
     same = sym (sells .security) ∙ buys .security
 
     limit : limitOf (b .turnover) buy ≤ maxPrice
-    limit = limit-fits st buy buyOk (all-at (KindOk d) noOrder (waitingIn b) i (st .kinds) (buys .inside))
+    limit = limit-fits d st buy buyOk (all-at (KindOk d) noOrder (waitingIn b) i (st .kinds) (buys .inside))
 
     listed : (q : ℕ) → q < length (waitingIn b) → (y : Asset) (e : ℕ)
         → needAt y (g .r) (b .turnover) e (orderAt (waitingIn b) q) ≤ needsOf y d (waitingIn b) e

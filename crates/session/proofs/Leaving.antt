@@ -21,7 +21,7 @@ use Rattle.market.proofs.Lists.{all-at, sum-remove}
 use Rattle.market.proofs.Known.{OrderOk}
 use Rattle.invariant.specs.Standing.{KindOk, Standing, needsOf}
 use Rattle.invariant.proofs.Leaves.{leave-standing}
-use Rattle.invariant.proofs.Pairing.{limit-fits}
+use Rattle.invariant.proofs.Whole.{limit-fits}
 use Rattle.matching.specs.Orders.{waitingIn}
 use Rattle.matching.proofs.First.{first-at}
 use Rattle.waiting.specs.Claims.{Freeable, moneyWith, piecesWith}
@@ -95,7 +95,7 @@ module _ {r : Rules} {x : Phase} {b : OrderBook} {m₀ k₀ m k : List ℕ} {i :
     leaving-ready =
         let kind = subst (KindOk d) first (all-at (KindOk d) noOrder (d .waiting) 0 (g .standing .kinds) inside) in
         frees d (row r (o .security)) o refl [] (g .standing .backed) (known .participant) (known .security)
-        (limit-fits (g .standing) o known kind) (known .top)
+        (limit-fits d (g .standing) o known kind) (known .top)
         (λ y j.
         subst (λ (z : Order). needAt y r (b .turnover) j z ≤ needsOf y d (d .waiting) j) first
         (omega (arith, sum-remove (needAt y r (b .turnover) j) noOrder (d .waiting) 0 inside)))

@@ -6,8 +6,8 @@ use Rattle.market.specs.Limits.{maxSecurities}
 use Rattle.market.specs.View.{dayOf}
 use Rattle.market.specs.Questions.{entryQuestions, firstNo}
 use Rattle.amounts.proofs.Answers.{fails, holds}
-use Rattle.orders.proofs.Calling.{codes-given, enterable, few-lots, in-table, order-enters, refuse-first}
-use Rattle.orders.proofs.Calling.{refuse-short, refuse-whole, rules-known}
+use Rattle.orders.proofs.Calling.{enterable, few-lots, in-table, order-enters, refuse-first, refuse-short}
+use Rattle.orders.proofs.Calling.{refuse-whole, rules-known}
 use borrow.Author.Needs.{needs}
 use Rattle.orders.proofs.order.Statement.{statement}
 use Rattle.orders.proofs.order.Tie as tie
@@ -65,7 +65,7 @@ entry-of-requires : tie.Need-entry-of-requires
 entry-of-requires c κs =
     let b = start (c .before) in
     let a = b .args in
-    codes-given (a .rules) (a .phase) (a .money .now) (a .pieces .now) (a .b) (b .pre)
+    (rules-known (a .rules) (a .phase) (a .money .now) (a .pieces .now) (a .b) (b .pre)) .codes
 
 is-fillable-requires : tie.Need-is-fillable-requires
 is-fillable-requires c κs =
@@ -93,9 +93,12 @@ asked c = c .before .before .before
 
 listed : (c : tie.Else3) → (start ((asked c) .before)) .args .ticket .security < maxSecurities
 listed c =
-    let b = start ((asked c) .before) in
+    let f = c .before in
+    let k = asked c in
+    let b = start (k .before) in
     let a = b .args in
-    in-table (a .rules) (a .phase) (a .money .now) (a .pieces .now) (a .b) (b .pre) (a .participant) (a .ticket) (a .force) (none (asked c))
+    in-table (a .rules) (a .phase) (a .money .now) (a .pieces .now) (a .b) (b .pre) (a .participant) (a .ticket) (a .force)
+    (a .trades .now) ((lent (k .before)) .if1 .left) (none k) (f .before .entry-of .ensures) (holds (f .is-fillable .ensures) (c .if3 .left))
 
 mul-row : tie.Need-mul-row
 mul-row c = omega (arith, listed (c .before))
