@@ -1,4 +1,4 @@
-.PHONY: test run beamgantry library compare program bench
+.PHONY: test run beamgantry library compare program bench copies
 
 # A day file for `make run`, and the generated days for `make compare`.
 DAY ?= crates/day_cases/data/worked-example.day
@@ -32,3 +32,7 @@ program: beamgantry library
 
 bench: library
 	@$(MODEL) bench
+
+# Bytes that the program copies per command, by kind.
+copies: beamgantry
+	@tests/copies/count.sh target/bin/beamgantry

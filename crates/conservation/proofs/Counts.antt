@@ -7,7 +7,8 @@ use mathlib.Core.Bool.{true}
 use lib.ListN.{length, take, drop, length-append, length-drop}
 use borrow.Author.Tests.{leb-true}
 use Rattle.market.specs.Limits.{lentAtLeast, maxMembers, maxTrades, minMembers, numbersPerTrade}
-use Rattle.market.specs.Day.{Day, Rules}
+use Rattle.market.specs.declared.Rules.{Rules}
+use Rattle.market.specs.Day.{Day}
 use Rattle.market.specs.Sound.{sound}
 use Rattle.market.specs.TradeList.{Trade, allNumbers, written}
 use Rattle.market.specs.Answers.{numbersOf}
@@ -18,7 +19,7 @@ use Rattle.market.specs.Matching.{fill}
 use Rattle.market.specs.Entry.{admitted, entered, placed}
 use Rattle.market.specs.Linked.{Group, groupResult, members, passed, stopped}
 use Rattle.market.specs.Closing.{closingTerms, pairsFrom}
-use Rattle.market.specs.Step.{answerBy, effect, result}
+use Rattle.market.specs.Step.{allQuestions, answerBy, effect, result}
 use Rattle.market.proofs.Logic.{within-high}
 use Rattle.market.proofs.Questions.{all-yes, first-yes, yes, yes-rest}
 use Rattle.market.proofs.Known.{closing-phase}
@@ -57,10 +58,9 @@ effect-few b d (increase x p column a) l g e = no-trades 0 l
 effect-few b d (decrease x p column a) l g e = no-trades 0 l
 effect-few b d (order p m k) l g e =
     let ok = enter-ok b d p m k g (order-admitted d l p m k e) in
-    let rest = yes-rest (sound d) 1 (ask 2 (enoughLent (length l)) ∷ orderQuestions d p m k) (omega arith) e in
     few (length (d .waiting)) ((fill (admitted d (entryOf d p m)) (entryOf d p m)) .trades) l
-    (first-yes (enoughLent (length l)) 2 (orderQuestions d p m k) (omega arith) rest)
-    (ok .few) (omega (arith, g .room))
+    (first-yes (enoughLent (length l)) 2 (orderQuestions d p m k) (omega arith) e)
+    (ok .few) (omega (arith, g .standing .room))
 effect-few b d (cancel p code) l g e = no-trades 0 l
 effect-few {U} {r} b d (linked p n ms) l g e =
     let qs = questions d (length l) (linked p n ms) in
@@ -71,7 +71,7 @@ effect-few {U} {r} b d (linked p n ms) l g e =
     go : n ≤ maxMembers → enoughLent (length l) ≡ true → (x : Group) → GroupOk U r b d p (take n ms) x
         → Few (mostTrades d (linked p n ms)) ((groupResult d p x) .trades) l
     go hn lent (stopped m y) h = no-trades _ l
-    go hn lent (passed d′ f ts) h = few _ ts l lent (omega (arith, h .3, take-le n ms)) (omega (arith, g .room))
+    go hn lent (passed d′ f ts) h = few _ ts l lent (omega (arith, h .3, take-le n ms)) (omega (arith, g .standing .room))
 effect-few b d startClosing l g e = no-trades 0 l
 effect-few b d (closingOrder p side s lots) l g e = no-trades 0 l
 effect-few b d endSession l g e =
@@ -79,16 +79,16 @@ effect-few b d endSession l g e =
     let y = all-yes qs tt e in
     let ok = closing-paired b d g (closing-phase (d .phase) (yes 6 qs y)) in
     few (length (d .waiting)) ((pairsFrom closingTerms (d .rules .securities) 0 d) .trades) l (yes 2 qs y)
-    (omega (arith, ok .count)) (omega (arith, g .room))
+    (omega (arith, ok .count)) (omega (arith, g .standing .room))
 
 pub result-few : {U : Type 0} {r : Rules} (b : Book) (d : Day) (c : Call) (l : List ℕ) → Good U r b d
     → Few (mostTrades d c) ((result d (length l) c) .trades) l
 unfolding result
-result-few b d c l g = go (firstNo (questions d (length l) c)) refl
+result-few b d c l g = go (firstNo (allQuestions d (length l) c)) refl
   where
-    go : (n : ℕ) → firstNo (questions d (length l) c) ≡ n
+    go : (n : ℕ) → firstNo (allQuestions d (length l) c) ≡ n
         → Few (mostTrades d c) ((answerBy n d (effect d c)) .trades) l
-    go zero e = effect-few b d c l g e
+    go zero e = effect-few b d c l g (yes-rest (sound d) 1 (questions d (length l) c) (omega arith) e)
     go (suc n) e = no-trades _ l
 
 -- the answer counts the trades
@@ -110,7 +110,7 @@ effect-counts d endSession = refl
 pub result-counts : (d : Day) (lent : ℕ) (c : Call)
     → (numbersOf ((result d lent c) .answer)) .trades ≡ length ((result d lent c) .trades)
 unfolding result
-result-counts d lent c = go (firstNo (questions d lent c))
+result-counts d lent c = go (firstNo (allQuestions d lent c))
   where
     go : (n : ℕ)
         → (numbersOf ((answerBy n d (effect d c)) .answer)) .trades ≡ length ((answerBy n d (effect d c)) .trades)

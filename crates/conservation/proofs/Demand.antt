@@ -8,12 +8,13 @@ use lib.ListN.{length, replicate, take}
 use Rattle.market.specs.declared.Answer.{Answer}
 use Rattle.market.specs.declared.Order.{Order}
 use Rattle.market.specs.declared.Phase.the-variants.{Open}
-use Rattle.market.specs.declared.Position.{Position}
 use Rattle.market.specs.declared.State.{State}
-use Rattle.market.specs.Limits.{columns, maxSecurities, places}
+use Rattle.market.specs.Limits.{columns, maxSecurities, places, positionNumbers}
 use Rattle.market.specs.Tests.{sumOf}
-use Rattle.market.specs.Day.{Asset, Day, Money, Pieces, Rules, columnsOf, noOrder, noPosition, noTurnover, orderAt}
-use Rattle.market.specs.Day.{place, positions, totalLimit, view}
+use Rattle.market.specs.declared.Rules.{Rules}
+use Rattle.market.specs.Day.{Asset, Day, Money, Pieces, blockedAt, columnsOf, freeAt, noOrder, noTurnover, orderAt}
+use Rattle.market.specs.Day.{place, positions, totalLimit}
+use Rattle.market.specs.View.{view}
 use Rattle.market.specs.Needs.{needAt}
 use Rattle.market.specs.Positions.{total}
 use Rattle.market.specs.Sound.{needsAt}
@@ -23,7 +24,7 @@ use Rattle.market.specs.Matching.{fits}
 use Rattle.market.specs.Calls.{Call, linked}
 use Rattle.market.specs.Questions.{firstNo, questions}
 use Rattle.market.specs.Linked.{Group, groupResult, members, passed, stopped}
-use Rattle.market.specs.Step.{Reply, answerBy, effect, result, step}
+use Rattle.market.specs.Step.{Reply, allQuestions, answerBy, effect, result, step}
 use Rattle.market.specs.Opening.{opened, opening}
 use Rattle.market.proofs.Lists.{All, all-at, same-all}
 use Rattle.market.proofs.Totals.{zero-total}
@@ -31,14 +32,16 @@ use Rattle.market.proofs.Needs.{isKept}
 use Rattle.market.proofs.Known.{RulesOk, is-kept}
 use Rattle.market.proofs.Matching.{prices-apart}
 use Rattle.market.proofs.Opening.{accepted}
+use Rattle.invariant.specs.Standing.{Held, KindOk}
+use Rattle.invariant.proofs.Entry.{kinds-priced}
 use Rattle.conservation.specs.Book.{Book, balances, emptyBook, feed, noBalance}
 use Rattle.conservation.specs.Statement.{Agrees, AllWhole, Demand3, Request, Whole, WholeBy, allShown, asOrder}
 use Rattle.conservation.specs.Statement.{bookAfter, bookNeeds, dayAfter}
 use Rattle.conservation.specs.OverStates.{AllServedWhole, Chain, Demand3OfStates, Served, bookServed, lastState}
 use Rattle.conservation.specs.OverStates.{replyOf}
 use Rattle.conservation.specs.SoundKept.{SoundKept, SoundReached}
-use Rattle.conservation.proofs.Held.{Held}
-use Rattle.conservation.proofs.Good.{Good, KindOk, kinds-priced}
+use Rattle.conservation.proofs.Balanced.{Balanced}
+use Rattle.conservation.proofs.Good.{Good}
 use Rattle.conservation.proofs.Linked.{GroupOk, members-ok}
 use Rattle.conservation.proofs.Sound.{bookOf, good-sound, sound-good}
 use Rattle.conservation.proofs.Steps.{read-written, step-good}
@@ -48,37 +51,47 @@ use Rattle.conservation.proofs.Counts.{result-counts, result-few, writt
 opened-good : (r : Rules) → RulesOk r → Good (Unit {0}) r emptyBook (opened r)
 unfolding emptyBook opened
 opened-good r ok = record {
-  agree = record { rules = refl; rulesOk = ok; turnover = refl; phase = refl; held = held };
+  standing = record {
+    backed = record { rulesOk = ok; held = held };
+    orders = tt;
+    kinds = tt;
+    room = omega arith;
+    turnoverLength = refl;
+    codes = record { arrivals = omega arith; shared = λ p. omega arith };
+    limit = refl;
+    turnovers = λ s h. rw (same-all maxSecurities s noTurnover)
+        (record { top = omega arith; low = omega arith; high = omega arith });
+  };
+  agree = record { rules = refl; turnover = refl; phase = refl; balanced = balanced };
   waiting = refl;
-  orders = tt;
   uncrossed = λ u h. tt;
-  kinds = tt;
-  room = omega arith;
-  turnoverLength = refl;
-  codes = record { arrivals = omega arith; shared = λ p. omega arith };
-  limit = refl;
-  turnovers = λ s h. rw (same-all maxSecurities s noTurnover)
-      (record { top = omega arith; low = omega arith; high = omega arith });
 }
   where
-    zeros : (n limit : ℕ) → n ≤ columns
-        → Held r n limit (replicate places noPosition) (replicate places noBalance) (λ j. 0)
+    zeros : (n limit : ℕ) → n ≤ columns → Held r n limit (replicate positionNumbers 0) (λ j. 0)
     zeros n limit wide = record {
       wide = wide;
       rows = ok .participants;
       positions = refl;
-      balances = refl;
-      agree = λ p c hp hc.
-          let x = ap total (same-all places (place p c) noPosition) in
-          rw (same-all places (place p c) noBalance) (omega (arith, x));
-      blocked = λ p c hp hc. ap (λ (x : Position). x .blocked) (same-all places (place p c) noPosition);
-      topped = λ c hc. omega (arith, zero-total places (r .participants) c);
+      blocked = λ p c hp hc. same-all positionNumbers (blockedAt (place p c)) 0;
+      topped = λ c hc. omega (arith, zero-total positionNumbers (r .participants) c);
     }
 
-    held : (x : Asset)
-        → Held r (columnsOf x r) (totalLimit x) (positions x (opened r)) (balances x emptyBook) (λ j. 0)
+    held : (x : Asset) → Held r (columnsOf x r) (totalLimit x) (positions x (opened r)) (λ j. 0)
     held Money = zeros (r .currencies) _ (omega (arith, ok .currencies))
     held Pieces = zeros (r .securities) _ (ok .securities)
+
+    even : (n : ℕ) → Balanced r n (replicate positionNumbers 0) (replicate places noBalance)
+    even n = record {
+      balances = refl;
+      agree = λ p c hp hc.
+          let free = same-all {A = ℕ} positionNumbers (freeAt (place p c)) 0 in
+          let blocked = same-all {A = ℕ} positionNumbers (blockedAt (place p c)) 0 in
+          rw (same-all places (place p c) noBalance) (omega arith);
+    }
+
+    balanced : (x : Asset) → Balanced r (columnsOf x r) (positions x (opened r)) (balances x emptyBook)
+    balanced Money = even (r .currencies)
+    balanced Pieces = even (r .securities)
 
 opening-good : (r : Rules) → isDone ((opening r) .answer) ≡ true → Good (Unit {0}) r emptyBook ((opening r) .day)
 opening-good r e = let a = accepted r e in rw (a .day) (opened-good r (a .rules))
@@ -91,8 +104,8 @@ shown-needs f (o ∷ w) = let r = shown-needs f w in omega arith
 agrees : {r : Rules} (b : Book) (d : Day) → Good (Unit {0}) r b d → Agrees r b d
 agrees {r} b d g = record {
   rules = sym rules;
-  balanced = λ x p c hp hc. (g .agree .held x) .agree p c (rw (← rules) hp) (known x c hc);
-  blocked = λ x p c hp hc. (g .agree .held x) .blocked p c (rw (← rules) hp) (known x c hc) ∙ sym (needs x (place p c));
+  balanced = λ x p c hp hc. (g .agree .balanced x) .agree p c (rw (← rules) hp) (known x c hc);
+  blocked = λ x p c hp hc. (g .standing .backed .held x) .blocked p c (rw (← rules) hp) (known x c hc) ∙ sym (needs x (place p c));
   waiting = sym (g .waiting);
   turnover = sym (g .agree .turnover);
   phase = sym (g .agree .phase);
@@ -118,7 +131,7 @@ agrees {r} b d g = record {
     kept-at i h hi =
         let o = orderAt (d .waiting) i in
         is-kept (d .rules) (o .security) (o .kind)
-        (kinds-priced d h o (all-at (KindOk d) noOrder (d .waiting) i (g .kinds) hi))
+        (kinds-priced d h o (all-at (KindOk d) noOrder (d .waiting) i (g .standing .kinds) hi))
 
 -- every group filled its members whole or changed nothing
 step-whole : {U : Type 0} {r : Rules} (b : Book) (d : Day) (c : Call) (l : List ℕ) → Good U r b d
@@ -126,7 +139,7 @@ step-whole : {U : Type 0} {r : Rules} (b : Book) (d : Day) (c : Call) (l : List 
 unfolding step result effect
 step-whole {U} {r} b d c l g p n ms e =
     subst (λ (x : Call). WholeBy d l p (take n ms) ((step d l x) .answer) ((step d l x) .day) ((step d l x) .list))
-    (sym e) (go (firstNo (questions d (length l) (linked p n ms))))
+    (sym e) (go (firstNo (allQuestions d (length l) (linked p n ms))))
   where
     group : (x : Group) → GroupOk U r b d p (take n ms) x
         → WholeBy d l p (take n ms) ((groupResult d p x) .answer) ((groupResult d p x) .day)
@@ -210,9 +223,9 @@ sound-kept d size e l c =
       sound = good-sound _ _ after;
       sized = record {
         table = ap (λ (r : Rules). length (r .table)) (sym (after .agree .rules)) ∙ size .table;
-        money = (after .agree .held Money) .positions;
-        pieces = (after .agree .held Pieces) .positions;
-        turnover = after .turnoverLength;
+        money = (after .standing .backed .held Money) .positions;
+        pieces = (after .standing .backed .held Pieces) .positions;
+        turnover = after .standing .turnoverLength;
       };
       few = omega (arith, counts, few .most);
       trades = omega (arith, counts, few .trades);

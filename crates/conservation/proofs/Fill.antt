@@ -1,27 +1,29 @@
 -- The whole fill of an entry.
-use Prim.Native.Nat.{ℕ, suc, _+_, _-_, _≤_, _<_, min}
+use Prim.Native.Nat.{ℕ, _+_, _-_, _≤_, _<_, min}
 use native.Mathlib.Omega.{arith}
 use mathlib.Core.Path.{_≡_, refl, sym}
-use mathlib.Core.List.{List, []}
-use mathlib.Core.Bool.{Bool, true, false}
+use mathlib.Core.List.{[]}
+use mathlib.Core.Bool.{false}
 use lib.ListN.{length}
 use Rattle.market.specs.declared.Order.{Order}
 use Rattle.market.specs.declared.Side.{Side}
 use Rattle.market.specs.declared.Side.the-variants.{Buy, Sell}
 use Rattle.market.specs.declared.TimeInForce.{TimeInForce}
 use Rattle.market.specs.Tests.{_=?_, _and_, sumOf}
-use Rattle.market.specs.Day.{Day, Rules, noOrder, orderAt, withLots}
+use Rattle.market.specs.declared.Rules.{Rules}
+use Rattle.market.specs.Day.{Day, noOrder, orderAt, withLots}
 use Rattle.market.specs.Codes.{codesOf}
 use Rattle.market.specs.Positions.{settle}
-use Rattle.market.specs.Waiting.{filledBy, takeOff}
+use Rattle.market.specs.Waiting.{takeOff}
 use Rattle.market.specs.TradeList.{tradeOf}
 use Rattle.market.specs.Matching.{Filled, buyOf, fill, fits, fitting, found, ifBuy, lotsAt, sellOf, traded}
 use Rattle.market.specs.Matching.{withTrade}
 use Rattle.market.proofs.Logic.{and-fails, both-equal}
 use Rattle.market.proofs.Lists.{All, all-at}
-use Rattle.market.proofs.Waiting.{Differs, Fresh, filled-no, filled-yes, fresh-takeOff, gone, stays}
+use Rattle.market.proofs.Waiting.{Differs, Fresh, fresh-takeOff}
 use Rattle.market.proofs.Matching.{Chosen, less-fitting, none-fitting}
 use Rattle.market.proofs.Fill.{fill-all}
+use Rattle.invariant.proofs.Flight.{one-more}
 use Rattle.conservation.specs.Book.{Book, feedTrade, feedTrades}
 use Rattle.conservation.specs.Statement.{ownLots}
 use Rattle.conservation.proofs.Match.{Matching, next-trade}
@@ -50,22 +52,6 @@ other-trade r e o p n x q c he ho = go x (e .side)
     go Buy Sell = rw (not-key q c o ho)
     go Sell Buy = rw (not-key q c o ho)
     go Sell Sell = rw (not-key q c e he)
-
--- a trade takes an order off or fills the entry, which then trades no more
-one-more : (w : List Order) (i n lots t v : ℕ) → i < length w → n ≡ min lots ((orderAt w i) .lots) → 0 < lots
-    → t + v ≤ length (takeOff w i n) + min 1 (lots - n) → t ≤ length (takeOff w i n) → (lots - n ≡ 0 → t ≡ 0)
-    → (suc t + v ≤ length w + min 1 lots) × (suc t ≤ length w)
-one-more w i n lots t v h e some all few idle = go (filledBy n (orderAt w i)) refl
-  where
-    go : (k : Bool) → filledBy n (orderAt w i) ≡ k → (suc t + v ≤ length w + min 1 lots) × (suc t ≤ length w)
-    go true q =
-        let g = gone w i n h (filled-yes n (orderAt w i) q) in
-        (omega arith, omega arith)
-    go false q =
-        let l = filled-no n (orderAt w i) q in
-        let s = stays w i n l in
-        let z = idle (omega arith) in
-        (omega arith, omega arith)
 
 -- what a fill of the entry e leaves
 pub record FilledOk (U : Type 0) (k : TimeInForce) (rules : Rules) (b : Book) (d : Day) (e : Order) (r : Filled) :

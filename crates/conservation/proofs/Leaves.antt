@@ -8,21 +8,21 @@ use lib.ListN.{length}
 use Rattle.market.specs.declared.Order.{Order}
 use Rattle.market.specs.declared.Phase.{Phase}
 use Rattle.market.specs.Tests.{removeAt}
-use Rattle.market.specs.Day.{Day, Rules, noOrder, orderAt, withPhase}
-use Rattle.market.specs.Codes.{codesOf, given}
+use Rattle.market.specs.declared.Rules.{Rules}
+use Rattle.market.specs.Day.{Day, noOrder, orderAt, withPhase}
 use Rattle.market.specs.Needs.{needAt}
 use Rattle.market.specs.Positions.{releaseFor}
 use Rattle.market.specs.Waiting.{Place, allLeave, isSomewhere, leave, leaveFirst, nowhere, placeIn, placeOf}
 use Rattle.market.specs.Waiting.{somewhere}
 use Rattle.market.proofs.Logic.{never}
-use Rattle.market.proofs.Lists.{All, all-at, all-remove, length-remove, sum-remove}
+use Rattle.market.proofs.Lists.{all-at, length-remove, sum-remove}
 use Rattle.market.proofs.Known.{OrderOk}
-use Rattle.market.proofs.Codes.{numbered-remove}
 use Rattle.market.proofs.Matching.{Uncrossed, uncrossed-remove}
+use Rattle.invariant.proofs.Leaves.{leave-standing, phase-standing}
 use Rattle.conservation.specs.Book.{Book, Waiting, allGone, dropOrder, withOrders}
 use Rattle.conservation.specs.Statement.{allShown}
 use Rattle.conservation.proofs.Listed.{Located, place-located}
-use Rattle.conservation.proofs.Good.{Good, KindOk, relist, repositioned}
+use Rattle.conservation.proofs.Good.{Good, relisted}
 use Rattle.conservation.proofs.Blocks.{release-agree}
 
 -- the order at place i leaves; v is the book's list without it
@@ -31,20 +31,14 @@ pub leave-good : {U : Type 0} {r : Rules} (b : Book) (d : Day) (i : ℕ) (v : Li
 unfolding leave releaseFor
 leave-good b d i v g h e =
     let o = orderAt (d .waiting) i in
-    let ok = all-at (OrderOk (d .rules)) noOrder (d .waiting) i (g .orders) h in
+    let ok = all-at (OrderOk (d .rules)) noOrder (d .waiting) i (g .standing .orders) h in
     record {
+      standing = leave-standing d i (g .standing) h;
       agree =
-          release-agree v b d o (ok .participant) (ok .security) [] [] (removeAt (d .waiting) i) (g .agree)
-          (λ y j. sum-remove (needAt y (d .rules) (d .turnover) j) noOrder (d .waiting) i h);
+          release-agree v b d o (ok .participant) (ok .security) [] (g .standing .backed) (removeAt (d .waiting) i) (g .agree)
+          (λ y j. omega (arith, sum-remove (needAt y (d .rules) (d .turnover) j) noOrder (d .waiting) i h));
       waiting = e;
-      orders = all-remove (OrderOk (d .rules)) (d .waiting) i (g .orders);
-      codes = numbered-remove (given d) (codesOf d) (d .waiting) (g .codes) i;
       uncrossed = λ u isopen. uncrossed-remove (d .waiting) i (g .uncrossed u isopen);
-      kinds = all-remove (KindOk d) (d .waiting) i (g .kinds);
-      limit = g .limit;
-      room = omega (arith, length-remove (d .waiting) i h, g .room);
-      turnoverLength = g .turnoverLength;
-      turnovers = g .turnovers;
     }
 
 pub cancel-good : {U : Type 0} {r : Rules} (b : Book) (d : Day) (p c : ℕ) → Good U r b d
@@ -73,9 +67,12 @@ unfolding leaveFirst leave
 leaveFirst-good zero b d g e =
     let none = no-orders (d .waiting) e in
     record {
-      good =
-          repositioned b (withOrders b []) d (d .money) (d .pieces) g
-          (relist [] [] (d .waiting) [] b d (g .agree) (λ y j. refl)) (sym (ap allShown none));
+      good = record {
+        standing = g .standing;
+        agree = relisted [] (d .waiting) b d (g .agree);
+        waiting = sym (ap allShown none);
+        uncrossed = g .uncrossed;
+      };
       empty = none;
     }
 leaveFirst-good (suc n) b d g e =
@@ -88,22 +85,15 @@ leaveFirst-good (suc n) b d g e =
 phase-good : {U : Type 0} {r : Rules} (b : Book) (d : Day) (x : Phase) → Good U r b d → d .waiting ≡ []
     → Good U r (allGone b x) (withPhase d x)
 phase-good b d x g e = record {
+  standing = phase-standing d x (g .standing) e;
   agree = record {
     rules = g .agree .rules;
-    rulesOk = g .agree .rulesOk;
-    held = g .agree .held;
+    balanced = g .agree .balanced;
     turnover = g .agree .turnover;
     phase = refl;
   };
   waiting = sym (ap allShown e);
-  orders = g .orders;
-  codes = g .codes;
   uncrossed = λ u h. subst (λ (w : List Order). Uncrossed w) (sym e) tt;
-  kinds = subst (λ (w : List Order). All (KindOk (withPhase d x)) w) (sym e) tt;
-  limit = g .limit;
-  room = g .room;
-  turnoverLength = g .turnoverLength;
-  turnovers = g .turnovers;
 }
 
 pub allLeave-good : {U : Type 0} {r : Rules} (b : Book) (d : Day) (x : Phase) → Good U r b d

@@ -5,11 +5,12 @@ use mathlib.Core.Path.{_≡_, refl, ap, subst}
 use mathlib.Core.List.{List, [], _∷_, _++_, append-nil}
 use lib.ListN.{length, length-append}
 use borrow.Author.Tests.{leb-true}
-use Rattle.market.specs.declared.Member.{Member}
+use Rattle.market.specs.declared.Ticket.{Ticket}
 use Rattle.market.specs.declared.Side.{Side}
 use Rattle.market.specs.declared.TimeInForce.the-variants.{FillOrKill}
 use Rattle.market.specs.Tests.{sumOf}
-use Rattle.market.specs.Day.{Day, Rules}
+use Rattle.market.specs.declared.Rules.{Rules}
+use Rattle.market.specs.Day.{Day}
 use Rattle.market.specs.Codes.{codesOf, given}
 use Rattle.market.specs.Positions.{releaseFor}
 use Rattle.market.specs.TradeList.{Trade}
@@ -29,7 +30,7 @@ use Rattle.conservation.proofs.Good.{Good}
 use Rattle.conservation.proofs.Enter.{EnteredOk, enter-ok, orderIn}
 
 -- what holds of the members from a day on
-abbrev pub GroupOk : Type 0 → Rules → Book → Day → ℕ → List Member → Group → Type 0
+abbrev pub GroupOk : Type 0 → Rules → Book → Day → ℕ → List Ticket → Group → Type 0
 GroupOk U r b d p ms (stopped n q) = Unit {0}
 GroupOk U r b d p ms (passed d′ f ts) =
     Good U r (feedTrades r b ts) d′ × FilledEach (codesOf d p + 1) p ms ts
@@ -37,7 +38,7 @@ GroupOk U r b d p ms (passed d′ f ts) =
     × (length ts + length (d′ .waiting) ≤ length (d .waiting) + length ms)
 
 -- trades before them that hold none of these codes
-each-after : (a c p : ℕ) (ms : List Member) (s t : List Trade) → a ≤ c
+each-after : (a c p : ℕ) (ms : List Ticket) (s t : List Trade) → a ≤ c
     → ((x : Side) (c : ℕ) → a ≤ c → sumOf (ownLots x p c) s ≡ 0) → FilledEach c p ms t → FilledEach c p ms (s ++ t)
 each-after a c p [] s t h z f = tt
 each-after a c p (m ∷ ms) s t h z f = (
@@ -45,7 +46,7 @@ each-after a c p (m ∷ ms) s t h z f = (
   each-after a (c + 1) p ms s t (omega arith) z (f .1),
 )
 
-pub members-ok : {U : Type 0} {r : Rules} (ms : List Member) (at : ℕ) (d : Day) (p : ℕ) (b : Book) → Good U r b d
+pub members-ok : {U : Type 0} {r : Rules} (ms : List Ticket) (at : ℕ) (d : Day) (p : ℕ) (b : Book) → Good U r b d
     → GroupOk U r b d p ms (members at d p ms)
 unfolding members entered feedTrades releaseFor orderQuestions beforeTrades
 members-ok [] at d p b g = (g, tt, λ x c h k. refl, omega arith)
@@ -62,7 +63,7 @@ members-ok {U} {r} (m ∷ ms) at d p b g = go (firstNo (orderQuestions d p m Fil
     s = f .trades
 
     unused : (c : ℕ) → codesOf d p < c → Fresh p c (d .waiting)
-    unused c h = numbered-fresh (given d) (codesOf d) (d .waiting) p c (g .codes) h
+    unused c h = numbered-fresh (given d) (codesOf d) (d .waiting) p c (g .standing .codes) h
 
     with-rest : EnteredOk U r b d p m FillOrKill f → codesOf d1 p ≡ codesOf d p + 1
         → m .lots ≤ fitting (entryOf d p m) (d .waiting)

@@ -13,26 +13,25 @@ use Rattle.market.specs.declared.Phase.the-variants.{Closed, Closing, Open}
 use Rattle.market.specs.declared.Side.the-variants.{Buy, Sell}
 use Rattle.market.specs.declared.Turnover.{Turnover}
 use Rattle.market.specs.Tests.{_<?_}
-use Rattle.market.specs.Day.{Asset, Day, Rules, noOrder, orderAt}
+use Rattle.market.specs.declared.Rules.{Rules}
+use Rattle.market.specs.Day.{Day, noOrder, orderAt}
 use Rattle.market.specs.Codes.{codesOf, given}
-use Rattle.market.specs.Needs.{limitOf, needAt}
+use Rattle.market.specs.Needs.{limitOf}
 use Rattle.market.specs.Positions.{settle}
 use Rattle.market.specs.Waiting.{takeOff}
 use Rattle.market.specs.TradeList.{Trade, tradeOf}
-use Rattle.market.specs.Matching.{lotsAt, reaches}
+use Rattle.market.specs.Matching.{lotsAt}
 use Rattle.market.specs.Closing.{Paired, Terms, followed, pairOne, pairedOff, pairs, pairsFrom, takeBoth}
-use Rattle.market.proofs.Lists.{All, all-at}
-use Rattle.market.proofs.Needs.{need-falls, need-none}
-use Rattle.market.proofs.Known.{OrderOk}
+use Rattle.market.proofs.Lists.{all-at}
 use Rattle.market.proofs.Waiting.{Apart, apart-at, apart-takeOff, at-takeOff, length-takeOff}
 use Rattle.market.proofs.Codes.{numbered-apart}
-use Rattle.market.proofs.Pairs.{Both, Meeting, meet-apart, pairs-all, take-both}
+use Rattle.market.proofs.Pairs.{Meeting, meet-apart, pairs-all}
 use Rattle.conservation.specs.Book.{Book, Waiting, countIn, feedTrade, feedTrades, takeLots}
 use Rattle.conservation.specs.Statement.{allShown}
 use Rattle.conservation.proofs.Listed.{feedTrades-append, takeLots-comm, takeLots-is}
-use Rattle.conservation.proofs.Good.{Good, KindOk, needsOf}
-use Rattle.conservation.proofs.Trade.{fallAt, trade-agree}
-use Rattle.conservation.proofs.Match.{less-ok}
+use Rattle.invariant.proofs.Pairing.{Fair, FairTo, pair-buy, pair-needs, pair-one, pair-sell, pair-standing, pair-two}
+use Rattle.conservation.proofs.Good.{Good}
+use Rattle.conservation.proofs.Trade.{trade-agree}
 
 -- lots off two orders, in the book as in the day
 lots-two : (w : List Order) (i j n : ℕ) → i < j → j < length w → Apart w
@@ -78,55 +77,26 @@ module _ {U : Type 0} {r : Rules} (b : Book) (d : Day) (g : Good U r b d) (shut 
   abbrev sell : Order
   sell = orderAt (d .waiting) j
 
-  two : Both (d .waiting) i j n (takeBoth (d .waiting) i j n)
-  two =
-      take-both (d .waiting) i j n (buys .inside) (sells .inside) (meet-apart s k (d .waiting) i j buys sells)
-
-  needs-left : (y : Asset) (q : ℕ)
-      → needsOf y d (takeBoth (d .waiting) i j n) q + (fallAt y d buy n q + fallAt y d sell n q)
-      ≡ needsOf y d (d .waiting) q
-  needs-left y q =
-      let none = need-none y (d .rules) (d .turnover) q in
-      let falls = need-falls y (d .rules) (d .turnover) q in
-      omega (
-        arith,
-        two .sums (needAt y (d .rules) (d .turnover) q) ni nj (none buy) (none sell),
-        falls buy n ni,
-        falls sell n nj,
-      )
-
   pub pair-good : Good U r (feedTrade r b (tradeOf (d .rules) buy sell p n)) (pairedOff d i j p n)
   unfolding pairedOff settle feedTrade
   pair-good =
-      let ok1 = all-at (OrderOk (d .rules)) noOrder (d .waiting) i (g .orders) (buys .inside) in
-      let ok2 = all-at (OrderOk (d .rules)) noOrder (d .waiting) j (g .orders) (sells .inside) in
+      let st = g .standing in
       record {
+        standing = pair-standing d st s k p i j n buys sells price ni nj;
         agree =
-            trade-agree [] [] (takeBoth (d .waiting) i j n) b d buy sell p n _ (d .turnover) (g .agree) ok1 ok2
-            (buys .side) (sells .side) (sym (sells .security) ∙ buys .security) price ni nj needs-left (λ y q. refl)
+            trade-agree [] (takeBoth (d .waiting) i j n) b d buy sell p n _ (d .turnover) (g .agree) (st .backed)
+            (pair-buy d st s k p i j n buys sells price ni nj) (pair-sell d st s k p i j n buys sells price ni nj)
+            (buys .side) (sells .side) (pair-one d st s k p i j n buys sells price ni nj) price ni nj
+            (λ y q. omega (arith, pair-needs d st s k p i j n buys sells price ni nj y q))
             (uncounted (b .phase) r (tradeOf (d .rules) buy sell p n) (b .turnover)
             (λ h. shut (sym (g .agree .phase) ∙ h)) ∙ g .agree .turnover);
         waiting =
             ap (λ (l : List Waiting).
             takeLots (sell .participant) (sell .code) n (takeLots (buy .participant) (buy .code) n l)) (g .waiting)
-            ∙ lots-both (d .waiting) i j n (numbered-apart (given d) (codesOf d) (d .waiting) (g .codes))
+            ∙ lots-both (d .waiting) i j n (numbered-apart (given d) (codesOf d) (d .waiting) (st .codes))
             (buys .inside) (sells .inside) (meet-apart s k (d .waiting) i j buys sells);
-        orders = two .all (OrderOk (d .rules)) (less-ok (d .rules) n) (g .orders);
-        codes = two .numbered (given d) (codesOf d) (g .codes);
         uncrossed = λ u h. absurd (shut h);
-        kinds = two .all (KindOk d) (λ o k l. k) (g .kinds);
-        limit = g .limit;
-        room = omega (arith, two .short, g .room);
-        turnoverLength = g .turnoverLength;
-        turnovers = g .turnovers;
       }
-
--- the buys that the terms let in can pay their price
-abbrev pub FairTo : ℕ → Terms → List Turnover → Order → Type 0
-FairTo s t l o = s ≡ o .security → reaches Sell (t .limit) (o .kind) ≡ true → t .price ≤ limitOf l o
-
-abbrev pub Fair : ℕ → Terms → Day → Type 0
-Fair s t d = All (FairTo s t (d .turnover)) (d .waiting)
 
 -- what a pairing leaves
 pub record PairedOk (U : Type 0) (r : Rules) (b : Book) (d : Day) (x : Paired) : Type 0 where
@@ -155,7 +125,7 @@ pairs-ok U r s t d = pairs-all s t (Pairing U r s t) (λ d b g shut fair. unpair
         (let n = min (lotsAt d i) (lotsAt d j) in
         let price = all-at (FairTo s t (d .turnover)) noOrder (d .waiting) i fair (mb .inside) (mb .security)
         (mb .reach) in
-        let both = two b d g shut s (t .limit) (t .price) i j n mb ms price (omega arith) (omega arith) in
+        let both = pair-two d (g .standing) s (t .limit) (t .price) i j n mb ms price (omega arith) (omega arith) in
         let good = pair-good b d g shut s (t .limit) (t .price) i j n mb ms price (omega arith) (omega arith) in
         let x = again _ good shut (both .all (FairTo s t (d .turnover)) (λ o k l. k) fair) in
         record { good = x .good; phase = x .phase; count = omega (arith, x .count, both .shorter (omega arith)) })

@@ -6,34 +6,28 @@ use mathlib.Core.List.{List, append-nil}
 use mathlib.Core.Bool.{Bool, true, false, not}
 use lib.ListN.{length}
 use borrow.Author.Tests.{le-ltb, lt-ltb}
-use Rattle.market.specs.declared.Answer.{Answer}
 use Rattle.market.specs.Answers.{isDone}
 use Rattle.market.proofs.Logic.{never}
 use Rattle.printing.specs.Buffer.{Puts}
 use Rattle.printing.specs.Lines.{answerLine}
-use Rattle.printing.proofs.Lines.{answer-length}
-use Rattle.dayfile.specs.declared.Headed.{Headed}
+use Rattle.heading.specs.declared.Headed.{Headed}
+use Rattle.heading.specs.Heading.{ReadsHeading, heading, maxText}
 use Rattle.dayfile.specs.declared.Run.{Run}
-use Rattle.dayfile.specs.Heading.{ReadsHeading, heading}
-use Rattle.dayfile.specs.Output.{afterHeading, maxText, printed}
-use Rattle.dayfile.specs.Run.{Begins, TooLong, left, room}
+use Rattle.dayfile.specs.Output.{afterHeading, printed}
+use Rattle.dayfile.specs.Run.{Begins, TooLong, left}
+use Rattle.dayfile.proofs.Resuming.{puts-inside}
 
--- an answer's line has room
-answer-inside : {before after : List ℕ} {n : ℕ} (line : ℕ) (a : Answer) → room ≤ length before
-    → Puts before 0 (answerLine line a) after n → n ≤ length after
-answer-inside line a lent puts = omega (arith, puts .end, puts .size, answer-length line a)
-
-pub begins-long : {text before after : List ℕ} {r : Run} → room ≤ length before → maxText < length text
-    → TooLong before r after → Begins text before r after
+pub begins-long : {text before after : List ℕ} {r : Run} → maxText < length text → TooLong before r after
+    → Begins text before r after
 unfolding left printed
-begins-long {text} lent long t = record {
+begins-long {text} long t = record {
   going = λ goes. never (sym goes ∙ t .over);
   size = t .puts .size;
-  filled = answer-inside _ _ lent (t .puts);
+  filled = puts-inside (omega arith) (t .puts);
   whole = rw (t .over, t .puts .text, lt-ltb maxText (length text) long) (append-nil _);
 }
 
-module _ {text before after : List ℕ} {h : Headed} {n : ℕ} (lent : room ≤ length before) (short : length text ≤ maxText)
+module _ {text before after : List ℕ} {h : Headed} {n : ℕ} (short : length text ≤ maxText)
     (reads : ReadsHeading text h) (puts : Puts before 0 (answerLine (h .line) (h .outcome .answer)) after n) where
   printed-short : printed text ≡ afterHeading (heading text)
   unfolding printed
@@ -51,7 +45,7 @@ module _ {text before after : List ℕ} {h : Headed} {n : ℕ} (lent : room ≤ 
       line = omega (arith, reads .few (sym e));
     };
     size = puts .size;
-    filled = answer-inside (h .line) (h .outcome .answer) lent puts;
+    filled = puts-inside (omega arith) puts;
     whole =
         let accepts : isDone ((heading text) .answer) ≡ true = ap isDone (sym (reads .answer)) ∙ sym e in
         rw (
@@ -68,7 +62,7 @@ module _ {text before after : List ℕ} {h : Headed} {n : ℕ} (lent : room ≤ 
   begins-headed false e = record {
     going = λ goes. never (sym goes);
     size = puts .size;
-    filled = answer-inside (h .line) (h .outcome .answer) lent puts;
+    filled = puts-inside (omega arith) puts;
     whole =
         let refuses : isDone ((heading text) .answer) ≡ false = ap isDone (sym (reads .answer)) ∙ sym e in
         rw (puts .text, printed-short, refuses, reads .line, reads .answer);

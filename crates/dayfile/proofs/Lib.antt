@@ -1,7 +1,4 @@
-pub mod Carrying
-pub mod Rounds
-pub mod Placing
-pub mod SecurityLines
-pub mod Heading
+pub mod Sized
+pub mod Resuming
 pub mod Beginning
 pub mod Whole

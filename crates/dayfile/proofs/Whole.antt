@@ -8,9 +8,9 @@ use lib.ListN.{length, take, length-append, length-take}
 use Rattle.market.specs.declared.Answer.the-variants.{Refused}
 use Rattle.market.specs.Tests.{_<?_}
 use Rattle.printing.specs.Lines.{answerLine, printedLine}
+use Rattle.heading.specs.Heading.{heading, maxText}
 use Rattle.dayfile.specs.declared.Run.{Run}
-use Rattle.dayfile.specs.Heading.{heading}
-use Rattle.dayfile.specs.Output.{afterHeading, maxText, printed, tooLong}
+use Rattle.dayfile.specs.Output.{afterHeading, printed, tooLong}
 use Rattle.dayfile.specs.Run.{Begins, Continues, Prints, left, room}
 
 -- something is printed for every text

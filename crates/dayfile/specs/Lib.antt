@@ -1,4 +1,2 @@
-pub mod Heading
-pub mod Command
 pub mod Output
 pub mod Run

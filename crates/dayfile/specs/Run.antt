@@ -1,35 +1,39 @@
 -- A run of a day file in parts: what was put into the buffer, and what is still to be printed.
-use Prim.Native.Nat.{ℕ, suc, _+_, _*_, _-_, _≤_, _<_}
+use Prim.Native.Nat.{ℕ, suc, _+_, _*_, _≤_, _<_}
 use mathlib.Core.Path.{_≡_}
 use mathlib.Core.List.{List, [], _++_}
 use mathlib.Core.Bool.{Bool, true, false}
 use lib.ListN.{drop, length, take}
 use Rattle.market.specs.declared.Answer.the-variants.{Refused}
-use Rattle.market.specs.Day.{view}
+use Rattle.market.specs.View.{view}
 use Rattle.market.specs.Sound.{sound}
 use Rattle.printing.specs.Buffer.{Puts}
 use Rattle.printing.specs.Lines.{answerLine}
+use Rattle.heading.specs.Heading.{maxText}
+use Rattle.commands.specs.Output.{linesFrom}
+pub use Rattle.commands.specs.Stand.{room}
 use Rattle.dayfile.specs.declared.Run.{Run}
-use Rattle.dayfile.specs.Output.{linesFrom, maxText, printed, tooLong}
+use Rattle.dayfile.specs.Output.{printed, tooLong}
 
--- what a command, or the last positions, take of the buffer at most
-abbrev pub room : ℕ
-room = 32768
+-- what the commands from here on print, and the positions after them
+abbrev pub ahead : List ℕ → Run → List ℕ
+ahead text r = linesFrom (view (r .state)) (r .line) (drop (r .at) text)
 
--- what is still to be printed, and how much there is still to do
+-- what is still to be printed
 abbrev pub leftBy : Bool → List ℕ → List ℕ
 leftBy true t = []
 leftBy false t = t
 
 unfoldable pub left : List ℕ → Run → List ℕ
-left text r = leftBy (r .over) (linesFrom (view (r .state)) (r .line) (drop (r .at) text))
+left text r = leftBy (r .over) (ahead text r)
 
+-- how much there is still to do, if n is how much is ahead
 abbrev pub toGoBy : Bool → ℕ → ℕ
 toGoBy true n = 0
 toGoBy false n = suc n
 
 unfoldable pub toGo : List ℕ → Run → ℕ
-toGo text r = toGoBy (r .over) (length text - r .at)
+toGo text r = toGoBy (r .over) (length (ahead text r))
 
 -- a run that is not over stands at a place of its text with a sound state; a command takes at most 9 lines and at least a
 -- byte, so that the line's number stays small

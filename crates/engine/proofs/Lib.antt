@@ -1,2 +1,1 @@
-pub mod Unsound
-pub mod Opens
+pub mod Joined

@@ -12,8 +12,8 @@ pub extern "C" fn run_day(text: &[u8], out: &mut [u8]) -> usize
     dayfile::whole_day(text, out)
 }
 
-// The same by the public calls of `engine` and `host`, each of which tests the state first. For tests and measurements:
-// its output is compared with that of `run_day`.
+// The same by the public calls of `engine`, each of which tests the state first. For tests and measurements: its output is
+// compared with that of `run_day`.
 #[no_mangle]
 pub extern "C" fn run_day_checked(text: &[u8], out: &mut [u8]) -> usize {
     checked::whole_day(text, out)

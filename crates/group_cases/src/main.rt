@@ -4,11 +4,11 @@ use engine::enter_order;
 use engine::increase_money;
 use engine::increase_pieces;
 use engine::opening;
-use market::Member;
 use market::Outcome;
 use market::Security;
 use market::Side;
 use market::State;
+use market::Ticket;
 use market::TimeInForce;
 use show::after;
 
@@ -27,8 +27,8 @@ fn kept(s: State, participant: u64, side: Side, security: u64, price: u64, lots:
     o.state
 }
 
-fn buy(security: u64, price: u64, lots: u64) -> Member {
-    Member {
+fn buy(security: u64, price: u64, lots: u64) -> Ticket {
+    Ticket {
         side: Side::Buy,
         security,
         price,
@@ -36,8 +36,8 @@ fn buy(security: u64, price: u64, lots: u64) -> Member {
     }
 }
 
-fn sell(security: u64, price: u64, lots: u64) -> Member {
-    Member {
+fn sell(security: u64, price: u64, lots: u64) -> Ticket {
+    Ticket {
         side: Side::Sell,
         security,
         price,
@@ -45,14 +45,14 @@ fn sell(security: u64, price: u64, lots: u64) -> Member {
     }
 }
 
-fn pair(first: Member, second: Member) -> [Member; 8] {
+fn pair(first: Ticket, second: Ticket) -> [Ticket; 8] {
     let mut members = [first; 8];
     members[1] = second;
     members
 }
 
 // A group whose trades are not looked at.
-fn group(s: State, participant: u64, count: u64, members: [Member; 8]) -> Outcome {
+fn group(s: State, participant: u64, count: u64, members: [Ticket; 8]) -> Outcome {
     let mut trades = [0u64; 1088];
     enter_group(s, participant, count, members, &mut trades)
 }
@@ -77,12 +77,12 @@ fn day() -> State {
 }
 
 fn positions(s: State) {
-    show::position(b"money of 0", s.money[0]);
-    show::position(b"money of 1", s.money[16]);
-    show::position(b"pieces of 0 in security 0", s.pieces[0]);
-    show::position(b"pieces of 0 in security 1", s.pieces[1]);
-    show::position(b"pieces of 1 in security 0", s.pieces[16]);
-    show::position(b"pieces of 1 in security 1", s.pieces[17]);
+    show::money(b"money of 0", s, 0);
+    show::money(b"money of 1", s, 16);
+    show::pieces(b"pieces of 0 in security 0", s, 0);
+    show::pieces(b"pieces of 0 in security 1", s, 1);
+    show::pieces(b"pieces of 1 in security 0", s, 16);
+    show::pieces(b"pieces of 1 in security 1", s, 17);
 }
 
 // Proceeds of the first member pay the second, to the last unit.

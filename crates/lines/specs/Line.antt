@@ -4,8 +4,8 @@ use mathlib.Core.List.{List, [], _∷_}
 use mathlib.Core.Bool.{Bool, true, false, cond}
 use lib.ListN.{replicate, set}
 use Rattle.market.specs.Tests.{_=?_}
-use Rattle.lines.specs.declared.Command.{Command}
-use Rattle.lines.specs.declared.Command.the-variants.{Malformed}
+use Rattle.lines.specs.declared.Line.{Line}
+use Rattle.lines.specs.declared.Line.the-variants.{Malformed}
 use Rattle.lines.specs.declared.Part.{Part}
 use Rattle.lines.specs.declared.Part.the-variants as part
 use Rattle.lines.specs.declared.Value.{Value}
@@ -53,11 +53,11 @@ valuesFrom (p ∷ ps) i vs (x ∷ t) =
     malformed
 
 -- what a line says
-abbrev pub saysBy : Row → Values → Command
+abbrev pub saysBy : Row → Values → Line
 saysBy r malformed = Malformed
 saysBy r (wellFormed vs) = r .says vs
 
-unfoldable pub lineSays : List ℕ → Command
+unfoldable pub lineSays : List ℕ → Line
 lineSays [] = Malformed
 lineSays (letter ∷ t) = saysBy (rowOf letter) (valuesFrom ((rowOf letter) .parts) 0 noValues t)
 

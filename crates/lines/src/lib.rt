@@ -1,12 +1,14 @@
 // What a line of a day file says.
-use market::Member;
+use market::Call;
+use market::Move;
 use market::Side;
+use market::Ticket;
 use market::TimeInForce;
 ghost use mathlib.Core.Path.{_≡_};
 ghost use Prim.Native.Nat.{_<_};
 ghost use lib.ListN.{drop, getD, length, replicate};
+ghost use Rattle.market.specs.declared.Call.the-variants as call;
 ghost use Rattle.lines.specs.declared.Part.the-variants.{Force, Nothing, Number, Side as SideLetter};
-ghost use Rattle.lines.specs.declared.Command.the-variants as command;
 ghost use Rattle.lines.specs.Forms.{at, forceOf, isNothing, rowOf, sideOf};
 ghost use Rattle.lines.specs.Line.{lineSays, noValues, value, valuesFrom, valuesIn};
 
@@ -14,21 +16,12 @@ const COMMA: u8 = b',';
 
 const MAX_DIGITS: usize = 16;
 
-// What a line says. Document 01's letters in its order: H, S, R, W, D, E, B and L, X, G, M, C, P, Z.
-pub enum Command {
+// What a line says. Document 01's letters R, W, D, E, B and L, X, G, C, P, Z are calls; the others are H, S and M.
+pub enum Line {
+    Call(Call),
     Heading(u64, u64, u64),
     Security(u64, u64, u64),
-    IncreaseMoney(u64, u64, u64),
-    DecreaseMoney(u64, u64, u64),
-    IncreasePieces(u64, u64, u64),
-    DecreasePieces(u64, u64, u64),
-    Order(u64, Member, TimeInForce),
-    Cancel(u64, u64),
-    Group(u64, u64),
-    Member(Member),
-    StartClosing,
-    ClosingOrder(u64, Side, u64, u64),
-    EndSession,
+    Member(Ticket),
     Malformed,
 }
 
@@ -205,12 +198,12 @@ fn force_of(v: u64) -> TimeInForce
     }
 }
 
-fn order(side: Side, v: [u64; 5]) -> Command
-    ensures { λ r. ⌜ r ≡ command.Order (at v 0) (record { side = side; security = at v 1; price = at v 2; lots = at v 3 }) (forceOf (at v 4)) ⌝ }
+fn order(side: Side, v: [u64; 5]) -> Call
+    ensures { λ r. ⌜ r ≡ call.Order (at v 0) (record { side = side; security = at v 1; price = at v 2; lots = at v 3 }) (forceOf (at v 4)) ⌝ }
 {
-    Command::Order(
+    Call::Order(
         v[0],
-        Member {
+        Ticket {
             side,
             security: v[1],
             price: v[2],
@@ -221,42 +214,42 @@ fn order(side: Side, v: [u64; 5]) -> Command
 }
 
 // What a line says by its letter and its fields' values.
-fn says(letter: u8, v: [u64; 5]) -> Command
+fn says(letter: u8, v: [u64; 5]) -> Line
     ensures { λ r. ⌜ r ≡ (rowOf letter) .says v ⌝ }
 {
     match letter {
-        b'H' => Command::Heading(v[0], v[1], v[2]),
-        b'S' => Command::Security(v[0], v[1], v[2]),
-        b'R' => Command::IncreaseMoney(v[0], v[1], v[2]),
-        b'W' => Command::DecreaseMoney(v[0], v[1], v[2]),
-        b'D' => Command::IncreasePieces(v[0], v[1], v[2]),
-        b'E' => Command::DecreasePieces(v[0], v[1], v[2]),
-        b'B' => order(Side::Buy, v),
-        b'L' => order(Side::Sell, v),
-        b'X' => Command::Cancel(v[0], v[1]),
-        b'G' => Command::Group(v[0], v[1]),
-        b'M' => Command::Member(Member {
+        b'H' => Line::Heading(v[0], v[1], v[2]),
+        b'S' => Line::Security(v[0], v[1], v[2]),
+        b'R' => Line::Call(Call::Reserve(Move::IncreaseMoney(v[0], v[1], v[2]))),
+        b'W' => Line::Call(Call::Reserve(Move::DecreaseMoney(v[0], v[1], v[2]))),
+        b'D' => Line::Call(Call::Reserve(Move::IncreasePieces(v[0], v[1], v[2]))),
+        b'E' => Line::Call(Call::Reserve(Move::DecreasePieces(v[0], v[1], v[2]))),
+        b'B' => Line::Call(order(Side::Buy, v)),
+        b'L' => Line::Call(order(Side::Sell, v)),
+        b'X' => Line::Call(Call::Cancel(v[0], v[1])),
+        b'G' => Line::Call(Call::Group(v[0], v[1])),
+        b'M' => Line::Member(Ticket {
             side: side_of(v[0]),
             security: v[1],
             price: v[2],
             lots: v[3],
         }),
-        b'C' => Command::StartClosing,
-        b'P' => Command::ClosingOrder(v[0], side_of(v[1]), v[2], v[3]),
-        b'Z' => Command::EndSession,
-        _ => Command::Malformed,
+        b'C' => Line::Call(Call::StartClosing),
+        b'P' => Line::Call(Call::ClosingOrder(v[0], side_of(v[1]), v[2], v[3])),
+        b'Z' => Line::Call(Call::EndSession),
+        _ => Line::Malformed,
     }
 }
 
-pub fn line_says(line: &[u8]) -> Command
+pub fn line_says(line: &[u8]) -> Line
     ensures { λ r. ⌜ r ≡ lineSays (now (line .entry)) ⌝ }
 {
     if line.len() == 0 {
-        return Command::Malformed;
+        return Line::Malformed;
     }
     let v = field_values(line);
     if !v.good {
-        return Command::Malformed;
+        return Line::Malformed;
     }
     let list = v.list;
     says(line[0], list)

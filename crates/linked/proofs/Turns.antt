@@ -3,171 +3,275 @@ use Prim.Native.Nat.{ℕ, _+_, _*_, _≤_, _<_}
 use native.Mathlib.Nat.{add-zero}
 use native.Mathlib.Numerals.{add-one}
 use native.Mathlib.Omega.{arith}
-use mathlib.Core.Path.{_≡_, refl, ap, sym, _∙_}
+use mathlib.Core.Path.{_≡_, refl, ap, sym, _∙_, subst}
 use mathlib.Core.List.{List, [], _∷_, _++_, append-nil}
-use mathlib.Core.Bool.{true}
-use lib.ListN.{length, take, drop, getD, drop-of-length-le, length-append}
+use lib.ListN.{length, take, drop, getD, drop-of-length-le, length-append, length-drop, length-take}
 use lib.Seq.{drop-cons, getD-take, length-take-le}
+use Rattle.market.specs.declared.Answer.{Answer}
 use Rattle.market.specs.declared.Answer.the-variants.{Done, Refused}
-use Rattle.market.specs.declared.Member.{Member}
-use Rattle.market.specs.declared.Outcome.{Outcome}
-use Rattle.market.specs.declared.State.{State}
+use Rattle.market.specs.declared.Carried.{Carried}
+use Rattle.market.specs.declared.Ticket.{Ticket}
+use Rattle.market.specs.declared.Order.{Order}
+use Rattle.market.specs.declared.OrderBook.{OrderBook}
+use Rattle.market.specs.declared.Phase.{Phase}
+use Rattle.market.specs.declared.Rules.{Rules}
 use Rattle.market.specs.declared.TimeInForce.the-variants.{FillOrKill}
-use Rattle.market.specs.Limits.{lentAtLeast, maxLots, maxMembers, numbersPerTrade}
-use Rattle.market.specs.Day.{view}
-use Rattle.market.specs.Sound.{sound}
+use Rattle.market.specs.Limits.{lentAtLeast, maxCodes, maxLots, maxMembers, maxSecurities, maxWaiting, minMembers}
+use Rattle.market.specs.Limits.{numbersPerTrade}
+use Rattle.market.specs.Day.{Day, row}
+use Rattle.market.specs.View.{dayOf}
 use Rattle.market.specs.TradeList.{Trade, written}
-use Rattle.market.specs.Answers.{Result}
-use Rattle.market.specs.Linked.{groupResult, members, passed, stopped}
-use Rattle.conservation.proofs.Counts.{written-length}
-use Rattle.orders.specs.Entering.{Enters, entering}
-use Rattle.linked.specs.Group.{Groups, Ready}
-use Rattle.linked.proofs.Lent.{lentFrom, put-back, returned, returned-written}
-use Rattle.linked.proofs.Taken.{Accepted, accepted, before, member-accepted, member-refused, refused}
+use Rattle.market.specs.Answers.{Result, numbersOf}
+use Rattle.market.specs.Calls.{entryOf, linked}
+use Rattle.market.specs.Entry.{entered}
+use Rattle.market.specs.Linked.{Group, members, passed, stopped}
+use Rattle.market.specs.Parts.{Carries}
+use Rattle.market.proofs.Logic.{within-high}
+use Rattle.market.proofs.View.{first-length}
+use Rattle.invariant.specs.Standing.{Standing}
+use Rattle.invariant.proofs.Sound.{ready-standing}
+use Rattle.invariant.proofs.Whole.{whole-few, whole-standing}
+use Rattle.matching.specs.Filling.{openDay}
+use Rattle.orders.specs.Entering.{Accepts, Enterable, EntersAs, entryWith, orderNo}
+use Rattle.orders.proofs.Answered.{accepts, codes-given, few-lots, in-table, opens, same-day}
+use Rattle.linked.specs.Group.{Groupable}
+use Rattle.linked.proofs.Calling.{group-carries}
+use Rattle.linked.proofs.Lent.{lentFrom, put-back, returned, returned-written, written-length}
+use Rattle.linked.proofs.Taken.{before, before-none, member-accepted, member-few, member-refused}
+
+-- what a group starts from
+pub record From : Type 0 where
+  pub rules : Rules
+  pub phase : Phase
+  pub owner : ℕ
+  pub count : ℕ
+  pub members : List Ticket
+  pub book : OrderBook
+  pub money : List ℕ
+  pub pieces : List ℕ
+  pub list : List ℕ
+
+abbrev pub dayAt : From → List ℕ → List ℕ → OrderBook → Day
+dayAt s m k b = dayOf (s .rules) (s .phase) m k b
+
+abbrev pub dayBefore : From → Day
+dayBefore s = dayAt s (s .money) (s .pieces) (s .book)
+
+abbrev pub GroupableFrom : From → Type 0
+GroupableFrom s = Groupable (s .rules) (s .phase) (s .money) (s .pieces) (s .book) (s .count) (s .list)
+
+-- the members of the group, and what they come to
+abbrev pub taken : From → List Ticket
+taken s = take (s .count) (s .members)
+
+abbrev pub whole : From → Group
+whole s = members 1 (dayBefore s) (s .owner) (taken s)
+
+abbrev pub CarriesFrom : From → (m′ k′ l′ : List ℕ) → Carried → Type 0
+CarriesFrom s m′ k′ l′ o =
+    Carries (s .rules) (s .phase) (s .money) (s .pieces) (s .book) (s .list) (linked (s .owner) (s .count) (s .members)) m′ k′
+    l′ o
 
 -- before a turn: the group comes to what is done and the members from here on
-pub record Turn (s : State) (p count : ℕ) (l₀ : List ℕ) (ms : List Member) (kept : List ℕ) (first : ℕ) (l : List ℕ)
-    (present : State) (filled made i : ℕ) : Type 0 where
-  pub ready : Ready s count l₀
-  pub listed : length ms ≡ maxMembers
-  pub saved : kept ≡ take lentAtLeast l₀
-  pub code : first ≡ s .codes + 1
-  pub turns : i ≤ count
-  pub stays : sound (view present) ≡ true
+pub record Turn (s : From) (m k l : List ℕ) (b : OrderBook) (filled made i : ℕ) : Type 0 where
+  pub able : GroupableFrom s
+  pub listed : length (s .members) ≡ maxMembers
+  pub turns : i ≤ s .count
+  pub stays : Standing (dayAt s m k b)
   pub trades : List Trade
   pub number : made ≡ length trades
-  pub space : made + present .count ≤ s .count + i
+  pub space : made + b .count ≤ s .book .count + i
   pub lots : filled ≤ maxLots * i
-  pub list : l ≡ written trades l₀
-  pub runs : members 1 (view s) p (take count ms)
-      ≡ before filled trades (members (i + 1) (view present) p (drop i (take count ms)))
+  pub list : l ≡ written trades (s .list)
+  pub runs : whole s ≡ before filled trades (members (i + 1) (dayAt s m k b) (s .owner) (drop i (taken s)))
 
-module _ {s : State} {p count : ℕ} {l₀ : List ℕ} {ms : List Member} {kept : List ℕ} {first : ℕ} {l : List ℕ}
-    {present : State} {filled made i : ℕ} (t : Turn s p count l₀ ms kept first l present filled made i) where
-  pub turn-long : length l ≡ length l₀
-  turn-long =
-      ap length (t .list)
-      ∙ written-length (t .trades) l₀ (omega (arith, t .number, t .space, t .turns, t .ready))
+-- what the answer of a member says: the group stops with number and place, and nothing is written; or it goes on
+abbrev pub Tells : From → (l : List ℕ) → (filled made i : ℕ) → (m1 k1 l1 : List ℕ) → OrderBook → Answer → Type 0
+Tells s l filled made i m1 k1 l1 b1 (Refused number place) = (whole s ≡ stopped number place) × (l1 ≡ l)
+Tells s l filled made i m1 k1 l1 b1 (Done code lots left number) =
+    Turn s m1 k1 l1 b1 (filled + lots) (made + number) (i + 1)
+
+module _ (s : From) (able : GroupableFrom s) where
+  standing-before : Standing (dayBefore s)
+  standing-before = ready-standing (able .ready)
+
+  few-before : s .book .count ≤ maxWaiting
+  few-before = (few-lots (s .rules) (s .phase) (s .money) (s .pieces) (s .book) standing-before) .room
+
+  pub code-before : s .book .codes ≤ maxCodes
+  code-before = codes-given (s .rules) (s .phase) (s .money) (s .pieces) (s .book) standing-before
+
+  pub few-members : s .count ≤ maxMembers
+  few-members = within-high minMembers maxMembers (s .count) (able .few)
+
+  pub turn-first : length (s .members) ≡ maxMembers → Turn s (s .money) (s .pieces) (s .list) (s .book) 0 0 0
+  turn-first listed = record {
+    able = able;
+    listed = listed;
+    turns = omega arith;
+    stays = standing-before;
+    trades = [];
+    number = refl;
+    space = omega arith;
+    lots = omega arith;
+    list = refl;
+    runs = before-none _;
+  }
+
+module _ {s : From} {m k l : List ℕ} {b : OrderBook} {filled made i : ℕ} (t : Turn s m k l b filled made i) where
+  -- what is added up stays small
+  pub turn-sums : (filled ≤ maxLots * maxMembers) × (numbersPerTrade * made ≤ lentAtLeast)
+  turn-sums = (
+    omega (arith, t .lots, t .turns, few-members s (t .able)),
+    omega (arith, t .space, t .turns, few-before s (t .able), few-members s (t .able)),
+  )
 
   -- before a member there is room for as many trades as orders wait
-  pub turn-room : i < count → numbersPerTrade * (made + present .count) ≤ lentAtLeast
-  turn-room h = omega (arith, t .space, t .ready .waiting, t .ready .most)
+  pub turn-room : i < s .count → numbersPerTrade * (made + b .count) ≤ lentAtLeast
+  turn-room h = omega (arith, t .space, few-before s (t .able), few-members s (t .able))
 
-  next-member : (z : Member) → i < count → drop i (take count ms) ≡ getD ms i z ∷ drop (i + 1) (take count ms)
+  pub turn-long : length l ≡ length (s .list)
+  turn-long =
+      ap length (t .list)
+      ∙ written-length (t .trades) (s .list) (omega (arith, t .number, turn-sums .1, t .able .lent))
+
+  next-member : (z : Ticket) → i < s .count → drop i (taken s) ≡ getD (s .members) i z ∷ drop (i + 1) (taken s)
   next-member z h =
-      let within : i < length (take count ms) =
-      simp (length-take-le count ms (omega (arith, t .listed, t .ready .most))) h in
-      rw (add-one, drop-cons (take count ms) i z, getD-take count ms i z)
+      let within : i < length (taken s) =
+      simp (length-take-le (s .count) (s .members) (omega (arith, t .listed, few-members s (t .able)))) h in
+      rw (add-one, drop-cons (taken s) i z, getD-take (s .count) (s .members) i z)
 
-  -- a turn: the next member enters on the lent rest of the list
-  module _ (z : Member) (h : i < count) (at : ℕ) (here : at ≡ numbersPerTrade * made) (o : Outcome) (part : List ℕ)
-      (e : Enters present p (getD ms i z) FillOrKill (lentFrom l at) part o) where
-    abbrev m : Member
-    m = getD ms i z
+  pub codes-fit : b .codes ≤ maxCodes
+  codes-fit = codes-given (s .rules) (s .phase) m k b (t .stays)
 
-    abbrev result : Result
-    result = entering (view present) p m FillOrKill
+  -- a turn of member q, which is asked number n
+  module _ (z : Ticket) (h : i < s .count) where
+    abbrev q : Ticket
+    q = getD (s .members) i z
 
-    ends : at ≡ numbersPerTrade * length (t .trades)
-    ends = omega (arith, t .number)
+    abbrev d : Day
+    d = dayAt s m k b
 
-    fits : at ≤ lentAtLeast
-    fits = omega (arith, turn-room h)
+    abbrev rest : List Ticket
+    rest = drop (i + 1) (taken s)
 
-    abbrev rest : List Member
-    rest = drop (i + 1) (take count ms)
-
-    runs-here : members 1 (view s) p (take count ms)
-        ≡ before filled (t .trades) (members (i + 1) (view present) p (m ∷ rest))
+    runs-here : whole s ≡ before filled (t .trades) (members (i + 1) d (s .owner) (q ∷ rest))
     runs-here =
-        t .runs
-        ∙ ap (λ (x : List Member). before filled (t .trades) (members (i + 1) (view present) p x)) (next-member z h)
+        t .runs ∙ ap (λ (x : List Ticket). before filled (t .trades) (members (i + 1) d (s .owner) x)) (next-member z h)
 
-    list-after : returned l at part ≡ written (t .trades ++ result .trades) l₀
-    list-after =
-        returned-written l₀ l part (t .trades) (result .trades) at ends (omega (arith, fits, t .ready .lent)) (t .list)
-        (e .gives .list)
+    module _ (n : ℕ) (en : n ≡ orderNo d (s .owner) q FillOrKill) where
+      pub tells-no : 0 < n → Tells s l filled made i m k l b (Refused n (i + 1))
+      tells-no some = (
+        runs-here ∙ member-refused d (s .owner) q (i + 1) filled (t .trades) rest n some (sym en),
+        refl,
+      )
 
-    pub list-long : length (returned l at part) ≡ length l₀
-    list-long =
-        ap length list-after
-        ∙ written-length (t .trades ++ result .trades) l₀
-        (omega (
-          arith,
-          t .number,
-          turn-room h,
-          t .ready .lent,
-          e .count,
-          length-append (t .trades) (result .trades),
-        ))
+      -- no question is answered "no"
+      module _ (none : n ≡ 0) where
+        asked : orderNo d (s .owner) q FillOrKill ≡ 0
+        asked = sym en ∙ none
 
-    module _ (code lots left number : ℕ) (done : o .answer ≡ Done code lots left number) where
-      member-done : Accepted (view present) p m lots number
-      member-done = accepted (view present) p m (o .answer) code lots left number (e .gives .answer) done
+        pub known : q .security < maxSecurities
+        known = in-table (s .rules) (s .phase) m k b (t .stays) (s .owner) q FillOrKill asked
 
-      pub sums-fit : (filled + lots ≤ maxLots * maxMembers) × (numbersPerTrade * (made + number) ≤ lentAtLeast)
-      sums-fit =
-          let a = member-done in (
-            omega (arith, t .lots, t .ready .most, a .few),
-            omega (arith, t .space, t .ready .waiting, t .ready .most, a .number, e .count),
-          )
+        abbrev e : Order
+        e = entryWith (b .codes) (s .owner) q
 
-      pub turn-next : Turn s p count l₀ ms kept first (returned l at part) (o .state) (filled + lots) (made + number)
-          (i + 1)
-      turn-next =
-          let a = member-done in
-          record {
-            ready = t .ready;
-            listed = t .listed;
-            saved = t .saved;
-            code = t .code;
-            turns = omega arith;
-            stays = e .stays;
-            trades = t .trades ++ result .trades;
-            number = omega (arith, t .number, a .number, length-append (t .trades) (result .trades));
-            space = omega (arith, t .space, a .number, e .count);
-            lots = omega (arith, t .lots, a .few);
-            list = list-after;
-            runs = runs-here
-                ∙ member-accepted (view present) p m (i + 1) filled (t .trades) rest (a .asked)
-                ∙ rw (← a .lots, ← add-one (i + 1), ← e .gives .day);
+        accepted : {o : Order} → o ≡ e → Accepts (s .rules) (row (s .rules) (q .security)) b o FillOrKill m k
+        accepted = accepts (s .rules) (s .phase) m k b (t .stays) (s .owner) q FillOrKill asked
+
+        -- the list is lent from here on
+        module _ (at : ℕ) (here : at ≡ numbersPerTrade * made) where
+          pub turn-enters : {o : Order} → o ≡ e
+              → Enterable (row (s .rules) (q .security)) b o FillOrKill m k (lentFrom l at)
+          turn-enters eo = record {
+            rules = s .rules;
+            accepts = accepted eo;
+            lent = simp (length-take, length-drop) (omega (arith, turn-room h, turn-long, t .able .lent));
           }
 
-    module _ (number place : ℕ) (stop : o .answer ≡ Refused number place) where
-      pub turn-stops : Groups s p count ms l₀ (take at kept ++ drop at (returned l at part))
-          (record { answer = Refused number (i + 1); state = s })
-      turn-stops =
-          let r = refused (view present) p m (o .answer) number place (e .gives .answer) stop in
-          let all : members 1 (view s) p (take count ms) ≡ stopped number (i + 1) =
-          runs-here ∙ member-refused (view present) p m (i + 1) filled (t .trades) rest number (r .0) (r .1) in
-          let same = ap (groupResult (view s) p) (sym all) in
-          record {
-            gives = record {
-              answer = ap (λ (x : Result). x .answer) same;
-              day = ap (λ (x : Result). x .day) same;
-              list = put-back l₀ (returned l at part) kept (t .trades ++ result .trades) at
-                  (omega (arith, ends, length-append (t .trades) (result .trades), r .2)) fits list-after (t .saved)
-                  ∙ ap (λ (x : Result). written (x .trades) l₀) same;
-            };
-            refusal = refl;
-          }
+          abbrev result : Result
+          result = entered d (entryOf d (s .owner) q) FillOrKill
 
-  pub turns-end : count ≤ i → Groups s p count ms l₀ l (record { answer = Done first filled 0 made; state = present })
+          -- and the member is entered: money m1, pieces k1, order book b1, and the lent part
+          module _ {o : Order} (eo : o ≡ e) {m1 k1 part : List ℕ} {b1 : OrderBook}
+              (enters : (r : Rules) → Accepts r (row (s .rules) (q .security)) b o FillOrKill m k
+              → EntersAs (entered (openDay r m k b) o FillOrKill) r (lentFrom l at) m1 k1 part b1) where
+            done : EntersAs result (s .rules) (lentFrom l at) m1 k1 part b1
+            done =
+                let same = same-day (s .rules) (s .phase) m k b (t .stays) (s .owner) q FillOrKill asked in
+                subst (λ (x : Day). EntersAs (entered x e FillOrKill) (s .rules) (lentFrom l at) m1 k1 part b1) (sym same)
+                (rw (← eo) (enters (s .rules) (accepted eo)))
+
+            day-is : dayAt s m1 k1 b1 ≡ result .day
+            day-is =
+                let phase = opens (s .rules) (s .phase) m k b (t .stays) (s .owner) q FillOrKill asked in
+                ap (λ (x : Phase). dayOf (s .rules) x m1 k1 b1) phase ∙ done .day
+
+            lots-is : b1 .filled ≡ (numbersOf (result .answer)) .filled
+            lots-is = ap (λ (x : Answer). (numbersOf x) .filled) (done .answer)
+
+            made-is : b1 .trades ≡ length (result .trades)
+            unfolding entered
+            made-is = ap (λ (x : Answer). (numbersOf x) .trades) (done .answer)
+
+            few : length (result .trades) + b1 .count ≤ b .count + 1
+            few =
+                omega (
+                  arith,
+                  whole-few d (s .owner) q (t .stays) asked,
+                  ap (λ (x : Day). length (x .waiting)) day-is,
+                  first-length (b1 .count) (b1 .orders),
+                  first-length (b .count) (b .orders),
+                )
+
+            list-after : returned l at part ≡ written (t .trades ++ result .trades) (s .list)
+            list-after =
+                returned-written (s .list) l part (t .trades) (result .trades) at (omega (arith, t .number)) (t .list)
+                (done .list)
+
+            pub tells-done : Tells s l filled made i m1 k1 (returned l at part) b1
+                (Done (b1 .codes) (b1 .filled) (b1 .left) (b1 .trades))
+            tells-done = record {
+              able = t .able;
+              listed = t .listed;
+              turns = omega arith;
+              stays = subst Standing (sym day-is) (whole-standing d (s .owner) q (t .stays) asked);
+              trades = t .trades ++ result .trades;
+              number = omega (arith, t .number, made-is, length-append (t .trades) (result .trades));
+              space = omega (arith, t .space, made-is, few);
+              lots = omega (arith, t .lots, lots-is, member-few d (s .owner) q asked);
+              list = list-after;
+              runs =
+                  runs-here
+                  ∙ member-accepted d (s .owner) q (i + 1) filled (t .trades) rest asked
+                  ∙ rw (← lots-is, ← add-one (i + 1), ← day-is);
+            }
+
+  -- refused: all is what it was before the group
+  pub turn-stops : (a : Answer) (number place : ℕ) → a ≡ Refused number place → (l1 : List ℕ)
+      → (whole s ≡ stopped number place) × (l1 ≡ l) → (at : ℕ) → at ≡ numbersPerTrade * made → (kept : List ℕ)
+      → kept ≡ take lentAtLeast (s .list)
+      → CarriesFrom s (s .money) (s .pieces) (take at kept ++ drop at l1)
+      (record { answer = a; phase = s .phase; book = s .book })
+  turn-stops a number place told l1 stop at here kept saved =
+      group-carries (s .rules) (s .phase) (s .money) (s .pieces) (s .book) (s .list) (s .owner) (s .count) (s .members)
+      (t .able) (stopped number place) (stop .0) (s .money) (s .pieces) (take at kept ++ drop at l1)
+      (record { answer = a; phase = s .phase; book = s .book }) told refl
+      (rw (stop .1)
+      (put-back (s .list) l kept (t .trades) at (omega (arith, t .number)) (omega (arith, turn-sums .1)) (t .list) saved))
+
+  pub turns-end : s .count ≤ i
+      → CarriesFrom s m k l (record { answer = Done (s .book .codes + 1) filled 0 made; phase = s .phase; book = b })
   unfolding members
   turns-end h =
-      let none : drop i (take count ms) ≡ [] =
-      drop-of-length-le (take count ms) {i = i}
-      (simp (length-take-le count ms (omega (arith, t .listed, t .ready .most))) (omega arith)) in
-      let all : members 1 (view s) p (take count ms) ≡ passed (view present) filled (t .trades) =
+      let none : drop i (taken s) ≡ [] =
+      drop-of-length-le (taken s) {i = i}
+      (simp (length-take-le (s .count) (s .members) (omega (arith, t .listed, few-members s (t .able)))) (omega arith)) in
+      let all-is : whole s ≡ passed (dayAt s m k b) filled (t .trades) =
       t .runs
-      ∙ ap (λ (x : List Member). before filled (t .trades) (members (i + 1) (view present) p x)) none
+      ∙ ap (λ (x : List Ticket). before filled (t .trades) (members (i + 1) (dayAt s m k b) (s .owner) x)) none
       ∙ rw (add-zero filled, append-nil (t .trades)) in
-      let same = ap (groupResult (view s) p) (sym all) in
-      record {
-        gives = record {
-          answer = rw (t .code, t .number) (ap (λ (x : Result). x .answer) same);
-          day = ap (λ (x : Result). x .day) same;
-          list = t .list ∙ ap (λ (x : Result). written (x .trades) l₀) same;
-        };
-        refusal = tt;
-      }
+      group-carries (s .rules) (s .phase) (s .money) (s .pieces) (s .book) (s .list) (s .owner) (s .count) (s .members)
+      (t .able) (passed (dayAt s m k b) filled (t .trades)) all-is m k l
+      (record { answer = Done (s .book .codes + 1) filled 0 made; phase = s .phase; book = b }) (rw (t .number)) refl (t .list)

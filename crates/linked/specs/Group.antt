@@ -1,33 +1,17 @@
--- The members of a group in turn, on a State.
+-- What the members of a group are taken from: a sound day of parts, with its questions answered "yes".
 use Prim.Native.Nat.{ℕ, _≤_}
 use mathlib.Core.Path.{_≡_}
 use mathlib.Core.List.{List}
 use mathlib.Core.Bool.{true}
-use lib.ListN.{length, take}
-use Rattle.market.specs.declared.Member.{Member}
-use Rattle.market.specs.declared.Outcome.{Outcome}
-use Rattle.market.specs.declared.State.{State}
-use Rattle.market.specs.Limits.{lentAtLeast, maxCodes, maxMembers, maxWaiting}
-use Rattle.market.specs.Day.{Day, view}
-use Rattle.market.specs.Sound.{sound}
-use Rattle.market.specs.Answers.{Result}
-use Rattle.market.specs.Linked.{groupResult, members}
-use Rattle.market.specs.Contract.{HandedBack}
-use Rattle.orders.specs.Entering.{Gives}
+use lib.ListN.{length}
+use Rattle.market.specs.declared.OrderBook.{OrderBook}
+use Rattle.market.specs.declared.Phase.{Phase}
+use Rattle.market.specs.declared.Rules.{Rules}
+use Rattle.market.specs.Limits.{lentAtLeast, maxMembers, minMembers}
+use Rattle.market.specs.Tests.{within}
+use Rattle.market.specs.Parts.{Ready}
 
--- what a group's questions leave, and a sound state
-pub record Ready (s : State) (count : ℕ) (l : List ℕ) : Type 0 where
-  pub stays : sound (view s) ≡ true
-  pub lent : lentAtLeast ≤ length l
-  pub most : count ≤ maxMembers
-  pub waiting : s .count ≤ maxWaiting
-  pub codes : s .codes ≤ maxCodes
-
--- the result of the first members
-abbrev pub inTurn : Day → ℕ → ℕ → List Member → Result
-inTurn d p count ms = groupResult d p (members 1 d p (take count ms))
-
--- that result, and a refused group hands its State back
-pub record Groups (s : State) (p count : ℕ) (ms : List Member) (l l′ : List ℕ) (o : Outcome) : Type 0 where
-  pub gives : Gives (inTurn (view s) p count ms) l l′ o
-  pub refusal : HandedBack s (o .answer) (o .state)
+pub record Groupable (r : Rules) (x : Phase) (m k : List ℕ) (b : OrderBook) (count : ℕ) (v : List ℕ) : Type 0 where
+  pub ready : Ready r x m k b
+  pub lent : lentAtLeast ≤ length v
+  pub few : within minMembers maxMembers count ≡ true

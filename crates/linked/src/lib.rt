@@ -1,38 +1,34 @@
-// The linked group: orders of kind A of one participant, each on the state its predecessor left. All of them, or none.
+// The linked group: orders of kind A of one participant, each on what its predecessor left. All of them, or none. Order
+// book, positions and the first numbers of the trade list are saved once, and put back where a member is refused.
 use amounts::within;
 use market::Answer;
+use market::Carried;
 use market::LENT_AT_LEAST;
 use market::MAX_MEMBERS;
 use market::MIN_MEMBERS;
-use market::Member;
-use market::Outcome;
-use market::State;
+use market::OrderBook;
+use market::Phase;
+use market::Rules;
+use market::Ticket;
 use market::TimeInForce;
-use market::refused;
+use market::declined;
 use matching::NUMBERS_PER_TRADE;
 use orders::enter;
+use orders::entry_of;
+use orders::is_fillable;
+use orders::order_no;
 ghost use mathlib.Core.Path.{_≡_};
 ghost use mathlib.Core.List.{_++_};
-ghost use mathlib.Core.Bool.{true};
 ghost use Prim.Native.Nat.{_≤_};
 ghost use lib.ListN.{drop, length, take};
+ghost use Rattle.market.specs.declared.TimeInForce.the-variants.{FillOrKill};
 ghost use Rattle.market.specs.Limits.{lentAtLeast};
-ghost use Rattle.market.specs.Day.{view};
-ghost use Rattle.market.specs.Sound.{sound};
-ghost use Rattle.market.specs.Answers.{numbersOf};
+ghost use Rattle.market.specs.View.{dayOf};
 ghost use Rattle.market.specs.Calls.{linked};
-ghost use Rattle.market.specs.Contract.{Does};
-ghost use Rattle.linked.specs.Group.{Groups, Ready};
-
-// The number of a refusal; 0 of an accepted order.
-fn number_of(answer: Answer) -> u64
-    ensures { λ r. ⌜ r ≡ (numbersOf answer) .refusal ⌝ }
-{
-    match answer {
-        Answer::Refused(number, _) => number,
-        Answer::Done(_, _, _, _) => 0,
-    }
-}
+ghost use Rattle.market.specs.Parts.{Carries, Ready};
+ghost use Rattle.invariant.specs.Standing.{Standing};
+ghost use Rattle.orders.specs.Entering.{orderNo};
+ghost use Rattle.linked.specs.Group.{Groupable};
 
 // The first numbers of the lent list: all that a group can write to.
 fn saved(trades: &[u64]) -> [u64; LENT_AT_LEAST]
@@ -60,62 +56,129 @@ fn restore(kept: [u64; LENT_AT_LEAST], count: usize, trades: &mut [u64])
     }
 }
 
-// The members in list order. At the first that is refused, state and trade list are those before the group.
+// The first "no" of a member's questions, 4 onwards; 0 where there is none.
+fn first_no<'a>(
+    book: OrderBook,
+    rules: Rules,
+    phase: Phase,
+    money: &'a [u64; 512],
+    pieces: &'a [u64; 512],
+    participant: u64,
+    member: Ticket,
+) -> u64
+    requires { ⌜ Standing (dayOf rules phase (now money) (now pieces) book) ⌝ }
+    ensures { λ r. ⌜ r ≡ orderNo (dayOf rules phase (now (money .entry)) (now (pieces .entry)) book) participant member FillOrKill ⌝ }
+{
+    let turnovers = book.turnover;
+    let force = TimeInForce::FillOrKill;
+    let number = order_no(
+        rules,
+        phase,
+        turnovers,
+        book.count,
+        book.codes,
+        money,
+        pieces,
+        participant,
+        member,
+        force,
+    );
+    if 0 < number {
+        return number;
+    }
+    let entry = entry_of(book.codes, participant, member);
+    if !is_fillable(book, force, entry) {
+        return 15;
+    }
+    0
+}
+
+// The members in list order. At the first that is refused, order book, positions and trade list are those before the
+// group.
 fn members_in_turn(
-    s: State,
+    b: OrderBook,
+    rules: Rules,
+    phase: Phase,
     participant: u64,
     count: u64,
-    members: [Member; 8],
+    members: [Ticket; 8],
+    money: &mut [u64; 512],
+    pieces: &mut [u64; 512],
     trades: &mut [u64],
-) -> Outcome
-    requires { ⌜ Ready s count (now trades) ⌝ }
-    ensures { λ r. ⌜ Groups s participant count members (now (trades .entry)) (now (trades .exit)) r ⌝ }
+) -> Carried
+    requires { ⌜ Groupable rules phase (now money) (now pieces) b count (now trades) ⌝ }
+    ensures { λ r. ⌜ Carries rules phase (now (money .entry)) (now (pieces .entry)) b (now (trades .entry)) (linked participant count members) (now (money .exit)) (now (pieces .exit)) (now (trades .exit)) r ⌝ }
 {
     let kept = saved(&*trades);
-    let first = s.codes + 1;
-    let mut present = s;
+    let kept_money = *money;
+    let kept_pieces = *pieces;
+    let mut book = b;
     let mut filled: u64 = 0;
     let mut made: usize = 0;
     let mut i: u64 = 0;
     while i < count {
         let at = made * NUMBERS_PER_TRADE;
         let member = members[i as usize];
-        let force = TimeInForce::FillOrKill;
-        let out = enter(present, participant, member, force, &mut trades[at..]);
-        let answer = out.answer;
-        let Answer::Done(_, lots, _, number) = answer else {
+        let number = first_no(book, rules, phase, &*money, &*pieces, participant, member);
+        // The answer of its entry, where nothing refuses it.
+        let mut answer = Answer::Refused(number, i + 1);
+        if number == 0 {
+            let row = rules.table[member.security as usize];
+            let entry = entry_of(book.codes, participant, member);
+            let force = TimeInForce::FillOrKill;
+            book = enter(book, entry, force, row, money, pieces, &mut trades[at..]);
+            answer = Answer::Done(book.codes, book.filled, book.left, book.trades);
+        }
+        let Answer::Done(_, lots, _, made_here) = answer else {
+            *money = kept_money;
+            *pieces = kept_pieces;
             restore(kept, at, trades);
-            return Outcome {
-                answer: Answer::Refused(number_of(answer), i + 1),
-                state: s,
+            return Carried {
+                answer,
+                phase,
+                book: b,
             };
         };
         filled += lots;
-        made += number as usize;
-        present = out.state;
+        made += made_here as usize;
         i += 1;
     }
-    Outcome {
-        answer: Answer::Done(first, filled, 0, made as u64),
-        state: present,
+    Carried {
+        answer: Answer::Done(b.codes + 1, filled, 0, made as u64),
+        phase,
+        book,
     }
 }
 
-pub fn enter_group(
-    s: State,
+pub fn group(
+    b: OrderBook,
+    rules: Rules,
+    phase: Phase,
     participant: u64,
     count: u64,
-    members: [Member; 8],
+    members: [Ticket; 8],
+    money: &mut [u64; 512],
+    pieces: &mut [u64; 512],
     trades: &mut [u64],
-) -> Outcome
-    requires { ⌜ sound (view s) ≡ true ⌝ }
-    ensures { λ r. ⌜ Does s (now (trades .entry)) (linked participant count members) r (now (trades .exit)) ⌝ }
+) -> Carried
+    requires { ⌜ Ready rules phase (now money) (now pieces) b ⌝ }
+    ensures { λ r. ⌜ Carries rules phase (now (money .entry)) (now (pieces .entry)) b (now (trades .entry)) (linked participant count members) (now (money .exit)) (now (pieces .exit)) (now (trades .exit)) r ⌝ }
 {
     if trades.len() < LENT_AT_LEAST {
-        return refused(s, 2);
+        return declined(b, phase, 2);
     }
     if !within(MIN_MEMBERS, MAX_MEMBERS, count) {
-        return refused(s, 3);
+        return declined(b, phase, 3);
     }
-    members_in_turn(s, participant, count, members, trades)
+    members_in_turn(
+        b,
+        rules,
+        phase,
+        participant,
+        count,
+        members,
+        money,
+        pieces,
+        trades,
+    )
 }

@@ -1,30 +1,26 @@
 -- The state as far as it is read.
-use Prim.Native.Nat.{ℕ, zero, suc, _+_, _*_}
-use mathlib.Core.List.{List, [], _∷_}
-use mathlib.Core.Path.{_≡_}
-use lib.ListN.{getD, length}
+use Prim.Native.Nat.{ℕ, _+_, _*_}
+use mathlib.Core.List.{List}
+use lib.ListN.{getD}
 use Rattle.market.specs.declared.Kind.the-variants as kind
 use Rattle.market.specs.declared.Order.{Order}
 use Rattle.market.specs.declared.Phase.{Phase}
-use Rattle.market.specs.declared.Position.{Position}
+use Rattle.market.specs.declared.Rules.{Rules}
 use Rattle.market.specs.declared.Security.{Security}
 use Rattle.market.specs.declared.Side.the-variants.{Buy}
-use Rattle.market.specs.declared.State.{State}
 use Rattle.market.specs.declared.Turnover.{Turnover}
-use Rattle.market.specs.Limits.{columns, maxSecurities, moneyLimit, piecesLimit, places}
+use Rattle.market.specs.Limits.{columns, moneyLimit, piecesLimit}
 
--- what the opening fixes: counts and security table
-pub record Rules : Type 0 where
-  pub participants : ℕ
-  pub currencies : ℕ
-  pub securities : ℕ
-  pub table : List Security
+-- what a participant has in a currency or a security
+pub record Position : Type 0 where
+  pub free : ℕ
+  pub blocked : ℕ
 
--- positions at participant × 16 + currency or security; waiting orders by rising code
+-- positions stand two numbers each, free before blocked; waiting orders by rising code
 pub record Day : Type 0 where
   pub rules : Rules
-  pub money : List Position
-  pub pieces : List Position
+  pub money : List ℕ
+  pub pieces : List ℕ
   pub waiting : List Order
   pub codes : ℕ
   pub phase : Phase
@@ -34,38 +30,11 @@ pub record Day : Type 0 where
 abbrev pub noSecurity : Security
 noSecurity = record { currency = 0; lot = 0; step = 0 }
 
-abbrev pub noPosition : Position
-noPosition = record { free = 0; blocked = 0 }
-
 abbrev pub noTurnover : Turnover
 noTurnover = record { pieces = 0; money = 0 }
 
 abbrev pub noOrder : Order
 noOrder = record { code = 0; participant = 0; side = Buy; security = 0; lots = 0; kind = kind.Kept 0 }
-
--- "Places past the counts aren't read": the first n orders, blank past the array's end, so that a count above 128
--- shows as a list that is too long
-abbrev pub firstOrders : ℕ → List Order → List Order
-firstOrders zero w = []
-firstOrders (suc n) [] = noOrder ∷ firstOrders n []
-firstOrders (suc n) (o ∷ w) = o ∷ firstOrders n w
-
--- the day that a State holds
-abbrev pub view : State → Day
-view s = record {
-  rules = record {
-    participants = s .participants;
-    currencies = s .currencies;
-    securities = s .securities;
-    table = s .table;
-  };
-  money = s .money;
-  pieces = s .pieces;
-  waiting = firstOrders (s .count) (s .orders);
-  codes = s .codes;
-  phase = s .phase;
-  turnover = s .turnover;
-}
 
 -- what a position is held in
 pub data Asset : Type 0 where
@@ -77,7 +46,7 @@ ifMoney Money a b = a
 ifMoney Pieces a b = b
 
 -- the positions in money, in pieces
-abbrev pub positions : Asset → Day → List Position
+abbrev pub positions : Asset → Day → List ℕ
 positions x d = ifMoney x (d .money) (d .pieces)
 
 -- money stands in the columns of the currencies, pieces in those of the securities
@@ -88,21 +57,28 @@ columnsOf x r = ifMoney x (r .currencies) (r .securities)
 abbrev pub totalLimit : Asset → ℕ
 totalLimit x = ifMoney x moneyLimit piecesLimit
 
--- the place of a participant's position in a currency or a security
+-- the place of a participant's position in a currency or a security: participant × 16 + currency or security
 abbrev pub place : ℕ → ℕ → ℕ
 place p column = p * columns + column
 
--- the position at a place
-abbrev pub position : List Position → ℕ → Position
-position l j = getD l j noPosition
+-- free stands at twice the place, blocked behind it
+abbrev pub freeAt : ℕ → ℕ
+freeAt j = 2 * j
 
--- the line of a security
-abbrev pub line : Rules → ℕ → Security
-line r s = getD (r .table) s noSecurity
+abbrev pub blockedAt : ℕ → ℕ
+blockedAt j = 2 * j + 1
+
+-- the position at a place
+abbrev pub position : List ℕ → ℕ → Position
+position l j = record { free = getD l (freeAt j) 0; blocked = getD l (blockedAt j) 0 }
+
+-- the row of a security
+abbrev pub row : Rules → ℕ → Security
+row r s = getD (r .table) s noSecurity
 
 -- a security's currency
 abbrev pub currencyOf : Rules → ℕ → ℕ
-currencyOf r s = (line r s) .currency
+currencyOf r s = (row r s) .currency
 
 -- Q and T of a security
 abbrev pub turnoverAt : List Turnover → ℕ → Turnover
@@ -124,7 +100,7 @@ withLots o n = record {
 }
 
 -- the day with one part replaced
-abbrev pub withMoney : Day → List Position → Day
+abbrev pub withMoney : Day → List ℕ → Day
 withMoney d m = record {
   rules = d .rules;
   money = m;
@@ -135,7 +111,7 @@ withMoney d m = record {
   turnover = d .turnover;
 }
 
-abbrev pub withPieces : Day → List Position → Day
+abbrev pub withPieces : Day → List ℕ → Day
 withPieces d m = record {
   rules = d .rules;
   money = d .money;
@@ -146,7 +122,7 @@ withPieces d m = record {
   turnover = d .turnover;
 }
 
-abbrev pub withPositions : Asset → Day → List Position → Day
+abbrev pub withPositions : Asset → Day → List ℕ → Day
 withPositions x d m = withPieces (withMoney d (ifMoney x m (d .money))) (ifMoney x (d .pieces) m)
 
 abbrev pub withWaiting : Day → List Order → Day
@@ -192,10 +168,3 @@ withTurnover d t = record {
   phase = d .phase;
   turnover = t;
 }
-
--- the arrays of a State have these lengths
-pub record Sized (d : Day) : Type 0 where
-  pub table : length (d .rules .table) ≡ maxSecurities
-  pub money : length (d .money) ≡ places
-  pub pieces : length (d .pieces) ≡ places
-  pub turnover : length (d .turnover) ≡ maxSecurities

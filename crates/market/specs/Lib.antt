@@ -1,12 +1,14 @@
 pub mod Limits
 pub mod Tests
 pub mod Day
+pub mod View
 pub mod Codes
 pub mod Needs
 pub mod Positions
 pub mod Waiting
 pub mod Sound
 pub mod TradeList
+pub mod Execution
 pub mod Answers
 pub mod Calls
 pub mod Matching
@@ -15,6 +17,7 @@ pub mod Entry
 pub mod Linked
 pub mod Closing
 pub mod Step
+pub mod Parts
 pub mod Opening
 pub mod Contract
 pub mod Edge

@@ -3,16 +3,17 @@ use Prim.Native.Nat.{ℕ, _+_, _-_}
 use mathlib.Core.List.{List}
 use lib.ListN.{set}
 use Rattle.market.specs.declared.Order.{Order}
-use Rattle.market.specs.declared.Position.{Position}
+use Rattle.market.specs.Day.{Position}
 use Rattle.market.specs.declared.Turnover.{Turnover}
 use Rattle.market.specs.Tests.{sumBelow}
-use Rattle.market.specs.Day.{Day, Rules, currencyOf, line, place, position, positions, turnoverAt, withLots, withMoney}
-use Rattle.market.specs.Day.{withPieces, withPositions}
+use Rattle.market.specs.declared.Rules.{Rules}
+use Rattle.market.specs.Day.{Day, blockedAt, currencyOf, freeAt, row, place, position, positions}
+use Rattle.market.specs.Day.{turnoverAt, withLots, withMoney, withPieces, withPositions}
 use Rattle.market.specs.Needs.{assetOf, need, piecesOf, placeFor, sumFor}
 
 -- the position at place j becomes f of it
-unfoldable pub change : List Position → ℕ → (Position → Position) → List Position
-change l j f = set l j (f (position l j))
+unfoldable pub change : List ℕ → ℕ → (Position → Position) → List ℕ
+change l j f = set (set l (freeAt j) ((f (position l j)) .free)) (blockedAt j) ((f (position l j)) .blocked)
 
 -- "Increase and decrease move free money or free pieces of one participant"
 abbrev pub receive : ℕ → Position → Position
@@ -57,13 +58,13 @@ fall r t o n = need r t o - need r t (withLots o (o .lots - n))
 
 -- "the buyer's blocked money falls by his own price × n × lot size; the sum p × n × lot size goes to the seller's free
 -- money; the difference returns to the buyer's free money"
-abbrev pub moneySettled : Day → Order → Order → ℕ → ℕ → List Position
+abbrev pub moneySettled : Day → Order → Order → ℕ → ℕ → List ℕ
 moneySettled d b s n sum =
     change (change (d .money) (placeFor (d .rules) b) (pay (fall (d .rules) (d .turnover) b n) sum))
     (place (s .participant) (currencyOf (d .rules) (b .security))) (receive sum)
 
 -- "The seller's blocked pieces become the buyer's free pieces"
-abbrev pub piecesSettled : Day → Order → Order → ℕ → ℕ → List Position
+abbrev pub piecesSettled : Day → Order → Order → ℕ → ℕ → List ℕ
 piecesSettled d b s n pieces =
     change (change (d .pieces) (placeFor (d .rules) s) (pay (fall (d .rules) (d .turnover) s n) pieces))
     (place (b .participant) (b .security)) (receive pieces)
@@ -71,8 +72,8 @@ piecesSettled d b s n pieces =
 -- "A trade of n lots at price p" between a buy b and a sell s
 unfoldable pub settle : Day → Order → Order → ℕ → ℕ → Day
 settle d b s p n =
-    withPieces (withMoney d (moneySettled d b s n (sumFor (line (d .rules) (b .security)) p n)))
-    (piecesSettled d b s n (piecesOf (line (d .rules) (b .security)) n))
+    withPieces (withMoney d (moneySettled d b s n (sumFor (row (d .rules) (b .security)) p n)))
+    (piecesSettled d b s n (piecesOf (row (d .rules) (b .security)) n))
 
 -- Q and T with q pieces and t money more
 abbrev pub counting : ℕ → ℕ → Turnover → Turnover
@@ -80,12 +81,12 @@ counting q t x = record { pieces = x .pieces + q; money = x .money + t }
 
 -- "Each trade adds to Q and T": n lots of security s at price p
 unfoldable pub counted : Rules → List Turnover → ℕ → ℕ → ℕ → List Turnover
-counted r t s p n = set t s (counting (piecesOf (line r s) n) (sumFor (line r s) p n) (turnoverAt t s))
+counted r t s p n = set t s (counting (piecesOf (row r s) n) (sumFor (row r s) p n) (turnoverAt t s))
 
 -- free plus blocked
 abbrev pub total : Position → ℕ
 total p = p .free + p .blocked
 
 -- a currency's or a security's total over all participants
-abbrev pub totalAt : ℕ → List Position → ℕ → ℕ
+abbrev pub totalAt : ℕ → List ℕ → ℕ → ℕ
 totalAt participants l column = sumBelow participants (λ p. total (position l (place p column)))

@@ -1,11 +1,11 @@
 -- What each call does, and the step that joins it with the questions.
 use Prim.Native.Nat.{ℕ, zero, suc}
-use mathlib.Core.List.{List, []}
+use mathlib.Core.List.{List, [], _∷_}
 use lib.ListN.{length, take}
 use Rattle.market.specs.declared.Answer.{Answer}
 use Rattle.market.specs.declared.Answer.the-variants.{Done}
 use Rattle.market.specs.declared.Phase.the-variants.{Closed, Closing}
-use Rattle.market.specs.declared.Position.{Position}
+use Rattle.market.specs.Day.{Position}
 use Rattle.market.specs.Day.{Asset, Day, place, positions, withPositions}
 use Rattle.market.specs.Positions.{change, draw, receive}
 use Rattle.market.specs.Waiting.{allLeave, leave, placeIn, placeOf}
@@ -13,7 +13,8 @@ use Rattle.market.specs.TradeList.{written}
 use Rattle.market.specs.Answers.{Result, refused, zeros}
 use Rattle.market.specs.Calls.{Call, cancel, closingOf, closingOrder, decrease, endSession, entryOf, increase}
 use Rattle.market.specs.Calls.{linked, order, startClosing}
-use Rattle.market.specs.Questions.{firstNo, questions}
+use Rattle.market.specs.Sound.{sound}
+use Rattle.market.specs.Questions.{Question, ask, firstNo, questions}
 use Rattle.market.specs.Entry.{entered, placed}
 use Rattle.market.specs.Linked.{groupResult, members}
 use Rattle.market.specs.Closing.{closingTerms, endResult, pairsFrom}
@@ -42,9 +43,13 @@ abbrev pub answerBy : ℕ → Day → Result → Result
 answerBy zero d r = r
 answerBy (suc n) d r = refused d (suc n) 0
 
+-- 1. "Is the state sound?", asked of every call before its own questions
+abbrev pub allQuestions : Day → ℕ → Call → List Question
+allQuestions d lent c = ask 1 (sound d) ∷ questions d lent c
+
 -- the questions, then the effect
 unfoldable pub result : Day → ℕ → Call → Result
-result d lent c = answerBy (firstNo (questions d lent c)) d (effect d c)
+result d lent c = answerBy (firstNo (allQuestions d lent c)) d (effect d c)
 
 -- answer, day and lent list after a call
 pub record Reply : Type 0 where

@@ -3,7 +3,8 @@
 ghost use mathlib.Core.Path.{_≡_};
 ghost use Rattle.market.specs.declared.Answer.the-variants.{Done, Refused};
 ghost use Rattle.market.specs.Limits.{limitsInOrder};
-ghost use Rattle.market.specs.Day.{view, withPhase};
+ghost use Rattle.market.specs.View.{dayOf, view};
+ghost use Rattle.market.specs.Parts.{bookOf, rulesOf};
 ghost use Rattle.market.specs.Sound.{isClosing, isOpen};
 
 pub const MAX_PARTICIPANTS: u64 = 16;
@@ -89,11 +90,6 @@ pub struct Security {
     pub step: u64,
 }
 
-pub struct Position {
-    pub free: u64,
-    pub blocked: u64,
-}
-
 // Q pieces and T money of a security, traded while open.
 pub struct Turnover {
     pub pieces: u64,
@@ -110,22 +106,54 @@ pub struct Order {
     pub kind: Kind,
 }
 
-// A member of a linked group.
-pub struct Member {
+// What an order says; a linked group's members are such.
+pub struct Ticket {
     pub side: Side,
     pub security: u64,
     pub price: u64,
     pub lots: u64,
 }
 
-// Positions stand at participant * 16 + currency or security; the first `count` orders wait.
+// What the opening fixes: counts and security table.
+pub struct Rules {
+    pub participants: u64,
+    pub currencies: u64,
+    pub securities: u64,
+    pub table: [Security; 16],
+}
+
+// A move of reserves: participant, currency or security, amount.
+pub enum Move {
+    IncreaseMoney(u64, u64, u64),
+    DecreaseMoney(u64, u64, u64),
+    IncreasePieces(u64, u64, u64),
+    DecreasePieces(u64, u64, u64),
+}
+
+// A call with its arguments; the members of a group stand beside it.
+pub enum Call {
+    Reserve(Move),
+    // Participant and order.
+    Order(u64, Ticket, TimeInForce),
+    // Participant and code.
+    Cancel(u64, u64),
+    // Participant and number of members.
+    Group(u64, u64),
+    StartClosing,
+    // Participant, side, security, lots.
+    ClosingOrder(u64, Side, u64, u64),
+    EndSession,
+}
+
+// Positions stand at participant * 16 + currency or security, free at twice that place and blocked behind it; the first
+// `count` orders wait.
 pub struct State {
     pub participants: u64,
     pub currencies: u64,
     pub securities: u64,
     pub table: [Security; 16],
-    pub money: [Position; 256],
-    pub pieces: [Position; 256],
+    pub money: [u64; 512],
+    pub pieces: [u64; 512],
     pub orders: [Order; 128],
     pub count: usize,
     pub codes: u64,
@@ -137,6 +165,25 @@ pub struct State {
 pub enum Answer {
     Refused(u64, u64),
     Done(u64, u64, u64, u64),
+}
+
+// What order entry changes besides the positions: the waiting orders (the first `count`), codes given, Q and T; and of
+// the last entry the lots filled, the lots left, and its trades, so that `book = call(book, ..)` writes over `book`.
+pub struct OrderBook {
+    pub orders: [Order; 128],
+    pub count: usize,
+    pub codes: u64,
+    pub turnover: [Turnover; 16],
+    pub filled: u64,
+    pub left: u64,
+    pub trades: u64,
+}
+
+// What a call on the parts of a day comes to, besides positions and trade list.
+pub struct Carried {
+    pub answer: Answer,
+    pub phase: Phase,
+    pub book: OrderBook,
 }
 
 pub struct Outcome {
@@ -164,15 +211,48 @@ pub fn is_closing(phase: Phase) -> bool
     }
 }
 
-// The state in another phase. The prover covers no store to a field that is an enum, so the state is built anew.
-pub fn with_phase(s: State, phase: Phase) -> State
-    ensures { λ r. ⌜ view r ≡ withPhase (view s) phase ⌝ }
+// The parts of a state that its calls read, besides positions and phase.
+pub fn rules_of(s: State) -> Rules
+    ensures { λ r. ⌜ r ≡ rulesOf s ⌝ }
 {
     let table = s.table;
-    let money = s.money;
-    let pieces = s.pieces;
+    Rules {
+        participants: s.participants,
+        currencies: s.currencies,
+        securities: s.securities,
+        table,
+    }
+}
+
+pub fn book_of(s: State) -> OrderBook
+    ensures { λ r. ⌜ r ≡ bookOf s ⌝ }
+{
     let orders = s.orders;
     let turnover = s.turnover;
+    OrderBook {
+        orders,
+        count: s.count,
+        codes: s.codes,
+        turnover,
+        filled: 0,
+        left: 0,
+        trades: 0,
+    }
+}
+
+// The state with these parts. The prover covers no store to a field that is an enum, so the state is built anew.
+pub fn state_of(
+    s: State,
+    phase: Phase,
+    money: [u64; 512],
+    pieces: [u64; 512],
+    book: OrderBook,
+) -> State
+    ensures { λ r. ⌜ view r ≡ dayOf (rulesOf s) phase money pieces book ⌝ }
+{
+    let table = s.table;
+    let orders = book.orders;
+    let turnover = book.turnover;
     State {
         participants: s.participants,
         currencies: s.currencies,
@@ -181,10 +261,21 @@ pub fn with_phase(s: State, phase: Phase) -> State
         money,
         pieces,
         orders,
-        count: s.count,
-        codes: s.codes,
+        count: book.count,
+        codes: book.codes,
         phase,
         turnover,
+    }
+}
+
+// A refusal with place 0, and the order book as it was.
+pub fn declined(book: OrderBook, phase: Phase, number: u64) -> Carried
+    ensures { λ r. ⌜ r ≡ record { answer = Refused number 0; phase = phase; book = book } ⌝ }
+{
+    Carried {
+        answer: Answer::Refused(number, 0),
+        phase,
+        book,
     }
 }
 

@@ -1,59 +1,56 @@
--- Why no step of a trade goes below zero or past 64 bits.
-use Prim.Native.Nat.{ℕ, zero, suc, _-_, _≤_, _<_}
+-- Why no step of a trade goes below zero or past 64 bits, and what the parts of the day are after it.
+use Prim.Native.Nat.{ℕ, _+_, _*_, _≤_, _<_}
+use native.Mathlib.Nat.{mul-le-mul-left, mul-le-mul-right}
 use native.Mathlib.Omega.{arith}
 use mathlib.Core.Path.{_≡_, refl, ap, sym, _∙_, subst}
 use mathlib.Core.List.{List, [], _∷_, _++_}
-use mathlib.Core.Bool.{Bool, true, false}
-use lib.Dec.{eqb}
-use borrow.Author.Tests.{eqb-true, eqb-false, leb-true}
+use mathlib.Core.Bool.{true}
+use lib.ListN.{length, set}
+use borrow.Author.Tests.{leb-true}
 use Rattle.market.specs.declared.Order.{Order}
-use Rattle.market.specs.declared.Position.{Position}
+use Rattle.market.specs.declared.OrderBook.{OrderBook}
+use Rattle.market.specs.declared.Security.{Security}
 use Rattle.market.specs.declared.Side.{Side}
 use Rattle.market.specs.declared.Side.the-variants.{Buy, Sell}
 use Rattle.market.specs.declared.Turnover.{Turnover}
-use Rattle.market.specs.Limits.{maxCodes, maxPrice, moneyLimit}
-use Rattle.market.specs.Day.{Asset, Day, Money, Pieces, Rules, currencyOf, line, noOrder, orderAt, place, position}
-use Rattle.market.specs.Day.{turnoverAt, withLots}
-use Rattle.market.specs.Needs.{assetOf, columnOf, limitOf, need, needAt, piecesOf, sumFor}
-use Rattle.market.specs.Positions.{fall, total, totalAt}
-use Rattle.market.specs.Matching.{buyOf, found, ifBuy, lotsAt, opposite, reaches, sellOf, traded}
+use Rattle.market.specs.Limits.{maxCodes, maxLot, maxLots, maxPieces, moneyLimit, numbersPerTrade}
+use Rattle.market.specs.declared.Rules.{Rules}
+use Rattle.market.specs.Day.{Asset, Day, Money, Pieces, currencyOf, row, noOrder, orderAt, place, turnoverAt}
+use Rattle.market.specs.Day.{withMoney, withPieces}
+use Rattle.market.specs.Needs.{assetOf, columnOf, limitOf, need, needAt, piecesOf, placeFor, sumFor}
+use Rattle.market.specs.Positions.{change, counted, counting, fall, moneySettled, pay, piecesSettled, receive, settle}
+use Rattle.market.specs.Waiting.{takeOff}
+use Rattle.market.specs.TradeList.{tradeOf}
+use Rattle.market.specs.Matching.{buyOf, found, ifBuy, opposite, reaches, sellOf, traded}
 use Rattle.market.proofs.Logic.{never}
-use Rattle.market.proofs.Lists.{all-at, sum-remove}
+use Rattle.market.proofs.Lists.{sum-remove}
 use Rattle.market.proofs.Amounts.{only-same}
-use Rattle.market.proofs.Needs.{fall-pays, fall-sells, kept-limit, need-own, pieces-split, sum-bounds}
-use Rattle.market.proofs.Known.{KeptOk, OrderOk, is-kept, kept-price}
-use Rattle.market.proofs.Matching.{Chosen, Fit, fit, reach-buy}
-use Rattle.conservation.specs.Book.{Balance, Book}
-use Rattle.conservation.proofs.Held.{Held, held-place}
-use Rattle.conservation.proofs.Good.{Agree, needsOf}
-use Rattle.conservation.proofs.Match.{Matching, next-trade}
-use Rattle.matching.specs.Filling.{InFlight}
-use Rattle.matching.specs.Payable.{Countable, Payable}
-use Rattle.matching.specs.Trading.{Settles, Tradable}
-
--- one participant's amount is part of the total
-total-part : (n c q : ℕ) (m : List Position) → q < n → total (position m (place q c)) ≤ totalAt n m c
-total-part zero c q m h = absurd (omega arith)
-total-part (suc n) c q m h = go (λ l. total-part n c q m l) (eqb q n) refl
-  where
-    go : (q < n → total (position m (place q c)) ≤ totalAt n m c) → (k : Bool) → eqb q n ≡ k
-        → total (position m (place q c)) ≤ totalAt (suc n) m c
-    go again true e =
-        subst (λ (i : ℕ). total (position m (place i c)) ≤ totalAt (suc n) m c) (sym (eqb-true q n e)) (omega arith)
-    go again false e = omega (arith, again (omega (arith, eqb-false q n e)))
+use Rattle.market.proofs.Needs.{fall-pays, fall-sells, need-own, pieces-split, sum-bounds}
+use Rattle.market.proofs.Known.{OrderOk}
+use Rattle.market.proofs.Matching.{Chosen}
+use Rattle.positions.specs.Payable.{Payable}
+use Rattle.invariant.specs.Standing.{Backed, Held, needsOf}
+use Rattle.invariant.proofs.Held.{held-place, held-within}
+use Rattle.invariant.proofs.Flight.{buyer-pays, fitting, okE, okO, range}
+use Rattle.matching.specs.Execution.{Countable, Executable, Executes, Settles, moneyAfter}
+use Rattle.matching.specs.Execution.{piecesAfter}
+use Rattle.matching.specs.Filling.{Flies, openDay}
+use Rattle.matching.specs.Orders.{waitingIn}
+use Rattle.matching.specs.Written.{tradeAs}
 
 -- what is needed is blocked, so it can be paid, in money as in pieces
-payable : {r : Rules} {n limit : ℕ} {m : List Position} {l : List Balance} {needs : ℕ → ℕ}
-    → Held r n limit m l needs → limit ≤ moneyLimit → (q s c fall cost : ℕ)
+payable : {r : Rules} {n limit : ℕ} {m : List ℕ} {needs : ℕ → ℕ}
+    → Held r n limit m needs → limit ≤ moneyLimit → (q s c fall cost : ℕ)
     → q < r .participants → s < r .participants → c < n → fall ≤ needs (place q c) → cost ≤ fall
     → Payable m (place q c) fall cost (place s c)
-payable {r} {n} {limit} {m} h top q s c fall cost hq hs hc needed pays = record {
+payable h top q s c fall cost hq hs hc needed pays = record {
+  size = h .positions;
   payerKnown = held-place h q c hq hc;
   receiverKnown = held-place h s c hs hc;
   covered = omega (arith, h .blocked q c hq hc);
   pays = pays;
-  payerTotal = omega (arith, total-part (r .participants) c q m hq, h .topped c hc);
-  receiverTotal = omega (arith, total-part (r .participants) c s m hs, h .topped c hc);
+  payerTotal = omega (arith, held-within h q c hq hc);
+  receiverTotal = omega (arith, held-within h s c hs hc);
 }
 
 -- what an order needs where an order of its side blocks
@@ -64,32 +61,39 @@ need-there r t o x e =
     (need-own r t o)
 
 -- a buy and a sell among the orders that block: x are pending, the others wait
-module _ {r : Rules} (x : List Order) (b : Book) (d : Day) (agree : Agree r x b d) (buy sell : Order) (p n : ℕ)
+module _ (x : List Order) (d : Day) (backed : Backed x d) (buy sell : Order) (p n : ℕ)
     (buyOk : OrderOk (d .rules) buy) (sellOk : OrderOk (d .rules) sell)
     (buys : buy .side ≡ Buy) (sells : sell .side ≡ Sell) (same : sell .security ≡ buy .security)
-    (price : p ≤ limitOf (d .turnover) buy) (limit : limitOf (d .turnover) buy ≤ maxPrice)
+    (price : p ≤ limitOf (d .turnover) buy)
     (bought : n ≤ buy .lots) (sold : n ≤ sell .lots)
     (buyer : (j : ℕ) → needAt Money (d .rules) (d .turnover) j buy ≤ needsOf Money d (x ++ d .waiting) j)
     (seller : (j : ℕ) → needAt Pieces (d .rules) (d .turnover) j sell ≤ needsOf Pieces d (x ++ d .waiting) j) where
-  pub settles : Settles d buy sell p n
+  abbrev own : Security
+  own = row (d .rules) (buy .security)
+
+  abbrev falls : ℕ
+  falls = fall (d .rules) (d .turnover) buy n
+
+  sells-all : piecesOf own n ≡ fall (d .rules) (d .turnover) sell n
+  sells-all =
+      sym (fall-sells (d .rules) (d .turnover) sell n sells sold
+      ∙ ap (λ (k : ℕ). piecesOf (row (d .rules) k) n) same)
+
+  pub settles : Settles own buy sell falls (sumFor own p n) (piecesOf own n) (d .money) (d .pieces)
   settles =
-      let rules = agree .rulesOk in
+      let rules = backed .rulesOk in
       let s = buy .security in
       let c = currencyOf (d .rules) s in
       let hc = rules .currency s (buyOk .security) in
-      let cost = sumFor (line (d .rules) s) p n in
-      let pieces = piecesOf (line (d .rules) s) n in
-      let falls = fall (d .rules) (d .turnover) buy n in
+      let cost = sumFor own p n in
+      let pieces = piecesOf own n in
       let paid : falls ≤ needsOf Money d (x ++ d .waiting) (place (buy .participant) c) =
       omega (arith, need-there (d .rules) (d .turnover) buy Buy buys, buyer (place (buy .participant) c)) in
-      let all : pieces ≡ fall (d .rules) (d .turnover) sell n =
-      sym (fall-sells (d .rules) (d .turnover) sell n sells sold
-      ∙ ap (λ (k : ℕ). piecesOf (line (d .rules) k) n) same) in
       let given : pieces ≤ needsOf Pieces d (x ++ d .waiting) (place (sell .participant) s) =
       subst (λ (k : ℕ). pieces ≤ needsOf Pieces d (x ++ d .waiting) (place (sell .participant) k)) same
       (omega (
         arith,
-        all,
+        sells-all,
         need-there (d .rules) (d .turnover) sell Sell sells,
         seller (place (sell .participant) (sell .security)),
       )) in
@@ -98,122 +102,186 @@ module _ {r : Rules} (x : List Order) (b : Book) (d : Day) (agree : Agree r x b 
         seller = omega (arith, sellOk .participant, rules .participants);
         security = omega (arith, buyOk .security, rules .securities);
         currency = omega (arith, hc, rules .currencies);
-        lot = rules .lot s (buyOk .security);
-        price = omega arith;
-        limit = limit;
-        top = buyOk .top;
-        bought = bought;
-        sold = sold;
-        buys = buys;
-        sells = sells;
-        same = same;
         money =
-            payable (agree .held Money) (omega arith) (buy .participant) (sell .participant) c falls cost
+            payable (backed .held Money) (omega arith) (buy .participant) (sell .participant) c falls cost
             (buyOk .participant) (sellOk .participant) hc paid
             (fall-pays (d .rules) (d .turnover) buy p n buys price bought);
         pieces =
-            payable (agree .held Pieces) (omega arith) (sell .participant) (buy .participant) s pieces pieces
+            payable (backed .held Pieces) (omega arith) (sell .participant) (buy .participant) s pieces pieces
             (sellOk .participant) (buyOk .participant) (buyOk .security) given (omega arith);
       }
 
+  -- money and pieces after the trade
+  pub settled : (m k : List ℕ) → m ≡ moneyAfter own buy sell falls (sumFor own p n) (d .money)
+      → k ≡ piecesAfter buy sell (piecesOf own n) (d .pieces) → withPieces (withMoney d m) k ≡ settle d buy sell p n
+  unfolding settle
+  settled m k em ek =
+      let c = currencyOf (d .rules) (buy .security) in
+      let sum = sumFor own p n in
+      let pieces = piecesOf own n in
+      let payer : place (buy .participant) c ≡ placeFor (d .rules) buy = rw buys in
+      let holder : place (sell .participant) (buy .security) ≡ placeFor (d .rules) sell = rw (sells, same) in
+      let paid : m ≡ moneySettled d buy sell n sum =
+      em
+      ∙ ap (λ (i : ℕ). change (change (d .money) i (pay falls sum)) (place (sell .participant) c) (receive sum)) payer in
+      let delivered : k ≡ piecesSettled d buy sell n pieces =
+      ek
+      ∙ ap (λ (i : ℕ). change (change (d .pieces) i (pay pieces pieces)) (place (buy .participant) (buy .security))
+      (receive pieces)) holder
+      ∙ ap (λ (x : ℕ). change (change (d .pieces) (placeFor (d .rules) sell) (pay x pieces))
+      (place (buy .participant) (buy .security)) (receive pieces)) sells-all in
+      rw (paid, delivered)
+
 -- the entry e trades n lots with the order at place i, at its price p
-module _ {d : Day} {e : Order} (f : InFlight d e) (i p n : ℕ) (some : 0 < e .lots)
-    (chosen : Chosen e (d .waiting) (found i p)) (ne : n ≤ e .lots) (no : n ≤ lotsAt d i) where
-  abbrev m : Matching ⊥ (f .force) (f .rules) (f .book) d e
-  m = f .matching
+module _ {r : Rules} {l : Security} {b : OrderBook} {e : Order} {m k : List ℕ} (f : Flies r l b e m k) (i p n : ℕ)
+    (some : 0 < e .lots) (chosen : Chosen e (waitingIn b) (found i p)) (ne : n ≤ e .lots)
+    (no : n ≤ (orderAt (waitingIn b) i) .lots) where
+  abbrev d : Day
+  d = openDay r m k b
 
   abbrev o : Order
-  o = orderAt (d .waiting) i
+  o = orderAt (waitingIn b) i
 
-  fitting : Fit e o
-  fitting = fit e o (chosen .1)
+  abbrev t : List Turnover
+  t = b .turnover
 
-  entryOk : OrderOk (d .rules) e
-  entryOk = record { participant = m .participant; security = m .security; lots = some; top = m .top }
-
-  waitingOk : OrderOk (d .rules) o
-  waitingOk = all-at (OrderOk (d .rules)) noOrder (d .waiting) i (m .orders) (chosen .0)
-
-  kept : KeptOk (d .rules) (o .security) (o .kind)
-  kept = all-at (λ x. KeptOk (d .rules) (x .security) (x .kind)) noOrder (d .waiting) i (m .priced) (chosen .0)
-
-  range : (1 ≤ p) × (p ≤ maxPrice)
-  range =
-      let q = kept-price (d .rules) (o .security) (o .kind) kept in
-      (omega (arith, chosen .2, q .0), omega (arith, chosen .2, q .1))
-
-  entry-limit : limitOf (d .turnover) e ≤ maxPrice
-  entry-limit =
-      omega (
-        arith,
-        kept-limit (d .turnover) e (is-kept (d .rules) (e .security) (e .kind) (m .entryPriced)),
-        (kept-price (d .rules) (e .security) (e .kind) (m .entryPriced)) .1,
-      )
-
-  waiting-limit : limitOf (d .turnover) o ≡ p
-  waiting-limit =
-      kept-limit (d .turnover) o (is-kept (d .rules) (o .security) (o .kind) kept) ∙ sym (chosen .2)
-
-  entry-listed : (y : Asset) (j : ℕ)
-      → needAt y (d .rules) (d .turnover) j e ≤ needsOf y d ((e ∷ []) ++ d .waiting) j
+  entry-listed : (y : Asset) (j : ℕ) → needAt y r t j e ≤ needsOf y d ((e ∷ []) ++ waitingIn b) j
   entry-listed y j = omega arith
 
-  waiting-listed : (y : Asset) (j : ℕ)
-      → needAt y (d .rules) (d .turnover) j o ≤ needsOf y d ((e ∷ []) ++ d .waiting) j
-  waiting-listed y j =
-      omega (arith, sum-remove (needAt y (d .rules) (d .turnover) j) noOrder (d .waiting) i (chosen .0))
+  waiting-listed : (y : Asset) (j : ℕ) → needAt y r t j o ≤ needsOf y d ((e ∷ []) ++ waitingIn b) j
+  waiting-listed y j = omega (arith, sum-remove (needAt y r t j) noOrder (waitingIn b) i (chosen .0))
+
+  abbrev Fits : Order → Order → Type 0
+  Fits buy sell =
+      Settles (row r (buy .security)) buy sell (fall r t buy n) (sumFor (row r (buy .security)) p n)
+      (piecesOf (row r (buy .security)) n) m k
+      × ((m′ k′ : List ℕ)
+      → m′ ≡ moneyAfter (row r (buy .security)) buy sell (fall r t buy n) (sumFor (row r (buy .security)) p n) m
+      → k′ ≡ piecesAfter buy sell (piecesOf (row r (buy .security)) n) k
+      → withPieces (withMoney d m′) k′ ≡ settle d buy sell p n)
 
   sides : (x y : Side) → e .side ≡ x → o .side ≡ y → opposite x y ≡ true → reaches x (e .kind) (o .kind) ≡ true
-      → Settles d (ifBuy x e o) (ifBuy x o e) p n
-  sides Buy Buy ex oy q l = never q
-  sides Sell Sell ex oy q l = never q
-  sides Buy Sell ex oy q l =
-      settles (e ∷ []) (f .book) d (m .agree) e o p n entryOk waitingOk ex oy (sym (fitting .security))
-      (omega (
-        arith,
-        chosen .2,
-        reach-buy (e .kind) (o .kind) l,
-        kept-limit (d .turnover) e (is-kept (d .rules) (e .security) (e .kind) (m .entryPriced)),
-      )) entry-limit ne no (entry-listed Money) (waiting-listed Pieces)
-  sides Sell Buy ex oy q l =
-      settles (e ∷ []) (f .book) d (m .agree) o e p n waitingOk entryOk oy ex (fitting .security)
-      (omega (arith, waiting-limit)) (omega (arith, waiting-limit, range .1)) no ne (waiting-listed Money)
-      (entry-listed Pieces)
+      → Fits (ifBuy x e o) (ifBuy x o e)
+  sides Buy Buy ex oy q h = never q
+  sides Sell Sell ex oy q h = never q
+  sides Buy Sell ex oy q h =
+      let same = sym ((fitting d e (f .flight) i p n some chosen ne no) .security) in
+      let price = (buyer-pays d e (f .flight) i p n some chosen ne no Buy h) .0 in
+      let eOk = okE d e (f .flight) i p n some chosen ne no in
+      let oOk = okO d e (f .flight) i p n some chosen ne no in (
+        settles (e ∷ []) d (f .flight .backed) e o p n eOk oOk ex oy same price ne no (entry-listed Money)
+            (waiting-listed Pieces),
+        settled (e ∷ []) d (f .flight .backed) e o p n eOk oOk ex oy same price ne no (entry-listed Money)
+            (waiting-listed Pieces),
+      )
+  sides Sell Buy ex oy q h =
+      let same = (fitting d e (f .flight) i p n some chosen ne no) .security in
+      let price = (buyer-pays d e (f .flight) i p n some chosen ne no Sell h) .0 in
+      let eOk = okE d e (f .flight) i p n some chosen ne no in
+      let oOk = okO d e (f .flight) i p n some chosen ne no in (
+        settles (e ∷ []) d (f .flight .backed) o e p n oOk eOk oy ex same price no ne (waiting-listed Money)
+            (entry-listed Pieces),
+        settled (e ∷ []) d (f .flight .backed) o e p n oOk eOk oy ex same price no ne (waiting-listed Money)
+            (entry-listed Pieces),
+      )
+
+  both : Fits (buyOf e o) (sellOf e o)
+  both =
+      let h = fitting d e (f .flight) i p n some chosen ne no in
+      sides (e .side) (o .side) refl refl (h .side) (h .price)
+
+  -- buy and sell are of the entry's security
+  security-is : (x : Side) → (ifBuy x e o) .security ≡ e .security
+  security-is Buy = refl
+  security-is Sell = sym ((fitting d e (f .flight) i p n some chosen ne no) .security)
+
+  top-of : (x : Side) → ((ifBuy x e o) .lots ≤ maxLots) × (n ≤ (ifBuy x e o) .lots)
+  top-of Buy = (f .flight .top, ne)
+  top-of Sell = ((okO d e (f .flight) i p n some chosen ne no) .top, no)
 
   -- Q + pieces ≤ 10^7 × codes and T ≤ 10^6 × Q, with at most 10^6 codes
-  abbrev Counts : ℕ → Type 0
-  Counts s = Countable (turnoverAt (d .turnover) s) (piecesOf (line (d .rules) s) n) (sumFor (line (d .rules) s) p n)
-
-  own : Counts (e .security)
-  own =
+  counts : Countable (turnoverAt t (e .security)) (piecesOf (row r (e .security)) n) (sumFor (row r (e .security)) p n)
+  counts =
+      let g = f .flight in
       let s = e .security in
-      let l = line (d .rules) s in
-      let t = m .turnovers s (m .security) in
-      let room = only-same s (piecesOf l (e .lots)) in
-      let split = pieces-split l (e .lots) n ne in
-      let sum = sum-bounds l p n (range .0) (range .1) in
-      let codes = leb-true (d .codes) maxCodes (m .limit) in
+      let x = row r s in
+      let q = g .turnovers s (g .security) in
+      let room = only-same s (piecesOf x (e .lots)) in
+      let split = pieces-split x (e .lots) n ne in
+      let price = range d e g i p n some chosen ne no in
+      let sum = sum-bounds x p n (price .0) (price .1) in
+      let codes = leb-true (b .codes) maxCodes (g .limit) in
+      let lot = g .backed .rulesOk .lot s (g .security) in
+      let few = pieces-few x n lot (omega (arith, g .top)) in
       record {
-        roomQ = omega (arith, t .top);
-        roomT = omega (arith, t .top, t .high, sum .1);
+        roomQ = omega (arith, q .top);
+        roomT = omega (arith, q .top, q .high);
+        few = few;
+        low = omega (arith, sum .1);
       }
+    where
+      pieces-few : (x : Security) (n : ℕ) → x .lot ≤ maxLot → n ≤ maxLots → piecesOf x n ≤ maxPieces
+      pieces-few x n lot h =
+          unfold piecesOf in
+          (let a = mul-le-mul-right (x .lot) h in let b = mul-le-mul-left maxLots lot in omega arith)
 
-  counts : (x : Side) → Counts ((ifBuy x e o) .security)
-  counts Buy = own
-  counts Sell = subst Counts (fitting .security) own
+  -- in terms of the entry's security
+  abbrev At : ℕ → (List ℕ) → ℕ → Type 0
+  At s v j = Executable (row r s) (turnoverAt t s) (buyOf e o) (sellOf e o) p n j m k v
 
-  pub flight-trades : Tradable d (buyOf e o) (sellOf e o) i p n
-  flight-trades = record {
-    settles = sides (e .side) (o .side) refl refl (fitting .side) (fitting .price);
-    waits = chosen .0;
-    room = omega (arith, m .room);
-    counts = counts (e .side);
-  }
+  pub executable : (v : List ℕ) (j : ℕ) → numbersPerTrade * j + numbersPerTrade ≤ length v
+      → Executable l (turnoverAt t (e .security)) (buyOf e o) (sellOf e o) p n j m k v
+  executable v j lent =
+      let g = f .flight in
+      let s = security-is (e .side) in
+      let price = range d e g i p n some chosen ne no in
+      let h = fitting d e g i p n some chosen ne no in
+      let limit = (buyer-pays d e g i p n some chosen ne no (e .side) (h .price)) .1 in
+      let lots = top-of (e .side) in
+      subst (λ (x : Security). Executable x (turnoverAt t (e .security)) (buyOf e o) (sellOf e o) p n j m k v) (f .row)
+      (subst (λ (x : ℕ). At x v j) s
+      (record {
+        settles = both .0;
+        reckoned = record {
+          lot = g .backed .rulesOk .lot ((buyOf e o) .security) (omega (arith, s, g .security));
+          limit = limit;
+          top = lots .0;
+          part = lots .1;
+        };
+        price = price .1;
+        counts = subst (λ (x : ℕ). Countable (turnoverAt t x) (piecesOf (row r x) n) (sumFor (row r x) p n)) (sym s) counts;
+        lent = lent;
+      }))
 
-  pub flight-next : InFlight (traded d (buyOf e o) (sellOf e o) i p n) (withLots e (e .lots - n))
-  flight-next = record {
-    force = f .force;
-    rules = f .rules;
-    book = _;
-    matching = next-trade (f .force) (f .book) d e m i p n some chosen ne no;
-  }
+  -- the list shows the definition's trade
+  pub trade-is : tradeAs (buyOf e o) (sellOf e o) p n (sumFor l p n) ≡ tradeOf r (buyOf e o) (sellOf e o) p n
+  trade-is =
+      let own : row r ((buyOf e o) .security) ≡ l = ap (row r) (security-is (e .side)) ∙ f .row in
+      ap (λ (x : Security). tradeAs (buyOf e o) (sellOf e o) p n (sumFor x p n)) (sym own)
+
+  -- the parts after the trade make up the definition's day
+  module _ {m′ k′ v v′ : List ℕ} {j : ℕ} {q : Turnover} (b′ : OrderBook)
+      (done : Executes l (turnoverAt t (e .security)) (buyOf e o) (sellOf e o) p n j m k v m′ k′ v′ q)
+      (waiting : waitingIn b′ ≡ takeOff (waitingIn b) i n) (codes : b′ .codes ≡ b .codes)
+      (turnover : b′ .turnover ≡ set t (e .security) q) where
+    at-buy : Executes (row r ((buyOf e o) .security)) (turnoverAt t ((buyOf e o) .security)) (buyOf e o) (sellOf e o) p n j
+        m k v m′ k′ v′ q
+    at-buy =
+        subst (λ (x : ℕ). Executes (row r x) (turnoverAt t x) (buyOf e o) (sellOf e o) p n j m k v m′ k′ v′ q)
+        (sym (security-is (e .side)))
+        (subst (λ (x : Security). Executes x (turnoverAt t (e .security)) (buyOf e o) (sellOf e o) p n j m k v m′ k′ v′ q)
+        (sym (f .row)) done)
+
+    pub day-traded : openDay r m′ k′ b′ ≡ traded d (buyOf e o) (sellOf e o) i p n
+    unfolding traded settle counted
+    day-traded =
+        let positions = both .1 m′ k′ (at-buy .money) (at-buy .pieces) in
+        let counted : b′ .turnover
+        ≡ set t ((buyOf e o) .security)
+        (counting (piecesOf (row r ((buyOf e o) .security)) n) (sumFor (row r ((buyOf e o) .security)) p n)
+        (turnoverAt t ((buyOf e o) .security))) =
+        turnover ∙ ap (λ (x : ℕ). set t x q) (sym (security-is (e .side)))
+        ∙ ap (set t ((buyOf e o) .security)) (at-buy .turnover) in
+        let money = ap (λ (x : Day). x .money) positions in
+        let pieces = ap (λ (x : Day). x .pieces) positions in
+        rw (waiting, codes, counted, money, pieces)

@@ -1,32 +1,31 @@
-// Continuous trading: the best counter order, one trade, the fill.
+// Continuous trading: the best counter order, one trade, the fill. Positions and the trade list are lent, the order book
+// goes by value.
 use amounts::need_of;
 use amounts::pieces_of;
 use amounts::place_of;
-use amounts::sum_for;
 use market::Kind;
 use market::Order;
-use market::Position;
+use market::OrderBook;
 use market::Security;
 use market::Side;
-use market::State;
 use market::Turnover;
+use positions::transfer;
 ghost use mathlib.Core.Path.{_≡_};
 ghost use Prim.Native.Nat.{_+_, _*_, _-_, _≤_, _<_, min};
 ghost use lib.ListN.{length};
-ghost use Rattle.market.specs.Limits.{maxLot, maxLots, maxPrice, maxWaiting, moneyLimit, numbersPerTrade};
+ghost use Rattle.market.specs.Limits.{maxWaiting, numbersPerTrade};
 ghost use Rattle.market.specs.Tests.{removeAt};
-ghost use Rattle.market.specs.Day.{firstOrders, view, withLots, withWaiting};
-ghost use Rattle.market.specs.Needs.{priceOr};
-ghost use Rattle.market.specs.Positions.{counting, pay, receive, settle as daySettled, total};
-ghost use Rattle.market.specs.Waiting.{takeOff};
-ghost use Rattle.market.specs.Matching.{better as isBetter, fits as doesFit, fitting, fittingLots, ifBuy};
-ghost use Rattle.market.specs.Matching.{opposite as areOpposite, reaches as doesReach, traded as dayTraded};
+ghost use Rattle.market.specs.Day.{withLots};
+ghost use Rattle.market.specs.View.{firstOrders};
+ghost use Rattle.market.specs.Needs.{piecesOf, priceOr, sumFor};
+ghost use Rattle.market.specs.Positions.{counting};
+ghost use Rattle.market.specs.Matching.{better as isBetter, buyOf, fits as doesFit, fitting, fittingLots, ifBuy};
+ghost use Rattle.market.specs.Matching.{opposite as areOpposite, priceOf, reaches as doesReach, sellOf};
 ghost use Rattle.matching.specs.Search.{bestOf, preferLater};
-ghost use Rattle.matching.specs.Orders.{FewLots, TakenOff};
-ghost use Rattle.matching.specs.Written.{tradeIn, tradeWritten};
-ghost use Rattle.matching.specs.Payable.{Countable};
-ghost use Rattle.matching.specs.Trading.{Reckoned, Settles, Tradable, TradeDone, TradeReady, fallWith};
-ghost use Rattle.matching.specs.Filling.{Fills, InFlight};
+ghost use Rattle.matching.specs.Orders.{FewLots};
+ghost use Rattle.matching.specs.Written.{tradeAs, tradeWritten};
+ghost use Rattle.matching.specs.Execution.{Countable, Executable, Executes, Reckoned, Settles, fallWith, moneyAfter, piecesAfter};
+ghost use Rattle.matching.specs.Filling.{Fillable, Fills};
 
 // Buy code, sell code, buyer, seller, security, price, lots, sum.
 pub const NUMBERS_PER_TRADE: usize = 8;
@@ -35,19 +34,6 @@ pub const NUMBERS_PER_TRADE: usize = 8;
 pub enum Found {
     Nothing,
     At(usize, u64),
-}
-
-// The first `count` wait.
-pub struct Orders {
-    pub orders: [Order; 128],
-    pub count: usize,
-}
-
-// The state, the lots that are left of the entry, the number of trades.
-pub struct Filled {
-    pub state: State,
-    pub left: u64,
-    pub trades: u64,
 }
 
 fn opposite(side: Side, other: Side) -> bool
@@ -148,65 +134,6 @@ pub fn with_lots(o: Order, lots: u64) -> Order
     next
 }
 
-// The first `count` orders without the one at `at`, their order kept.
-pub fn removed(orders: [Order; 128], count: usize, at: usize) -> [Order; 128]
-    requires { ⌜ (at < count) × (count ≤ maxWaiting) ⌝ }
-    ensures { λ r. ⌜ firstOrders (count - 1) r ≡ removeAt (firstOrders count orders) at ⌝ }
-{
-    let mut next = orders;
-    let mut i = at;
-    let last = count - 1;
-    while i < last {
-        let o = next[i + 1];
-        next[i] = o;
-        i += 1;
-    }
-    next
-}
-
-// A filled order gives its place up.
-pub fn taken_off(orders: [Order; 128], count: usize, at: usize, lots: u64) -> Orders
-    requires { ⌜ (at < count) × (count ≤ maxWaiting) ⌝ }
-    ensures { λ r. ⌜ TakenOff orders count at lots r ⌝ }
-{
-    let o = orders[at];
-    if o.lots <= lots {
-        let others = removed(orders, count, at);
-        return Orders {
-            orders: others,
-            count: count - 1,
-        };
-    }
-    let mut next = orders;
-    next[at] = with_lots(o, o.lots - lots);
-    Orders {
-        orders: next,
-        count,
-    }
-}
-
-// Blocked falls by `fall`, of which `cost` is paid; the difference returns to free.
-fn paid(p: Position, fall: u64, cost: u64) -> Position
-    requires { ⌜ (fall ≤ p .blocked) × (cost ≤ fall) × (total p ≤ moneyLimit) ⌝ }
-    ensures { λ r. ⌜ r ≡ pay fall cost p ⌝ }
-{
-    Position {
-        free: p.free + (fall - cost),
-        blocked: p.blocked - fall,
-    }
-}
-
-// What a payer's blocked amount pays becomes the receiver's free amount.
-fn received(p: Position, cost: u64) -> Position
-    requires { ⌜ (p .free ≤ moneyLimit) × (cost ≤ moneyLimit) ⌝ }
-    ensures { λ r. ⌜ r ≡ receive cost p ⌝ }
-{
-    Position {
-        free: p.free + cost,
-        blocked: p.blocked,
-    }
-}
-
 // Each trade adds to Q and T.
 fn counted(old: Turnover, pieces: u64, sum: u64) -> Turnover
     requires { ⌜ Countable old pieces sum ⌝ }
@@ -225,15 +152,15 @@ fn lots_fitting(e: Order, o: Order) -> u64
 }
 
 // The lots of the waiting orders that fit the entry, added up.
-pub fn fitting_lots(s: State, e: Order) -> u64
-    requires { ⌜ FewLots (s .count) ((view s) .waiting) ⌝ }
-    ensures { λ r. ⌜ r ≡ fitting e ((view s) .waiting) ⌝ }
+pub fn fitting_lots(book: OrderBook, e: Order) -> u64
+    requires { ⌜ FewLots (book .count) (firstOrders (book .count) (book .orders)) ⌝ }
+    ensures { λ r. ⌜ r ≡ fitting e (firstOrders (book .count) (book .orders)) ⌝ }
 {
-    let count = s.count;
+    let count = book.count;
     let mut sum: u64 = 0;
     let mut i: usize = 0;
     while i < count {
-        let o = s.orders[i];
+        let o = book.orders[i];
         sum += lots_fitting(e, o);
         i += 1;
     }
@@ -241,95 +168,27 @@ pub fn fitting_lots(s: State, e: Order) -> u64
 }
 
 // By how much an order's need falls when lots come off it.
-fn fall_of(line: Security, turnover: Turnover, order: Order, lots: u64) -> u64
-    requires { ⌜ Reckoned line turnover order lots ⌝ }
-    ensures { λ r. ⌜ r ≡ fallWith line turnover order lots ⌝ }
+fn fall_of(row: Security, turnover: Turnover, order: Order, lots: u64) -> u64
+    requires { ⌜ Reckoned row turnover order lots ⌝ }
+    ensures { λ r. ⌜ r ≡ fallWith row turnover order lots ⌝ }
 {
     let rest = with_lots(order, order.lots - lots);
-    need_of(line, turnover, order) - need_of(line, turnover, rest)
-}
-
-// Money and pieces change hands. Where the price is below the buyer's own, the difference returns to his free money.
-pub fn settle(s: State, buy: Order, sell: Order, price: u64, lots: u64) -> State
-    requires { ⌜ Settles (view s) buy sell price lots ⌝ }
-    ensures { λ r. ⌜ view r ≡ daySettled (view s) buy sell price lots ⌝ }
-{
-    let security = buy.security as usize;
-    let line = s.table[security];
-    let turnover = s.turnover[security];
-    let fall = fall_of(line, turnover, buy, lots);
-    let sum = sum_for(line, price, lots);
-    let pieces = pieces_of(line, lots);
-    let payer = place_of(buy.participant, line.currency);
-    let payee = place_of(sell.participant, line.currency);
-    let holder = place_of(sell.participant, buy.security);
-    let taker = place_of(buy.participant, buy.security);
-    let mut next = s;
-    let buyer_money = next.money[payer];
-    next.money[payer] = paid(buyer_money, fall, sum);
-    // Each is read after the store before it: a participant may trade with himself.
-    let seller_money = next.money[payee];
-    next.money[payee] = received(seller_money, sum);
-    // The seller's need falls by the pieces that he sells.
-    let seller_pieces = next.pieces[holder];
-    next.pieces[holder] = paid(seller_pieces, pieces, pieces);
-    let buyer_pieces = next.pieces[taker];
-    next.pieces[taker] = received(buyer_pieces, pieces);
-    next
-}
-
-// Lots come off the waiting order at `at`; a filled order gives its place up.
-fn lots_off(s: State, at: usize, lots: u64) -> State
-    requires { ⌜ (at < s .count) × (s .count ≤ maxWaiting) ⌝ }
-    ensures { λ r. ⌜ view r ≡ withWaiting (view s) (takeOff ((view s) .waiting) at lots) ⌝ }
-{
-    let mut next = s;
-    let waiting = next.orders[at];
-    if waiting.lots <= lots {
-        let last = next.count - 1;
-        let mut i = at;
-        while i < last {
-            let later = next.orders[i + 1];
-            next.orders[i] = later;
-            i += 1;
-        }
-        next.count = last;
-        return next;
-    }
-    next.orders[at] = with_lots(waiting, waiting.lots - lots);
-    next
-}
-
-// A trade of a buy and a sell, of which the one at place `at` waited.
-fn traded(s: State, buy: Order, sell: Order, at: usize, price: u64, lots: u64) -> State
-    requires { ⌜ Tradable (view s) buy sell at price lots ⌝ }
-    ensures { λ r. ⌜ view r ≡ dayTraded (view s) buy sell at price lots ⌝ }
-{
-    let security = buy.security as usize;
-    let line = s.table[security];
-    let pieces = pieces_of(line, lots);
-    let sum = sum_for(line, price, lots);
-    let turnover = s.turnover[security];
-    let mut next = settle(s, buy, sell, price, lots);
-    next.turnover[security] = counted(turnover, pieces, sum);
-    lots_off(next, at, lots)
+    need_of(row, turnover, order) - need_of(row, turnover, rest)
 }
 
 // The numbers of a trade, as trade number `at` of the lent list.
-pub fn write_trade(
+fn write_trade(
     trades: &mut [u64],
     at: usize,
-    line: Security,
     buy: Order,
     sell: Order,
     price: u64,
     lots: u64,
+    sum: u64,
 )
     requires { ⌜ numbersPerTrade * at + numbersPerTrade ≤ length (now trades) ⌝ }
-    requires { ⌜ (line .lot ≤ maxLot) × (price ≤ maxPrice) × (lots ≤ maxLots) ⌝ }
-    ensures { λ _. ⌜ now (trades .exit) ≡ tradeWritten at (tradeIn line buy sell price lots) (now (trades .entry)) ⌝ }
+    ensures { λ _. ⌜ now (trades .exit) ≡ tradeWritten at (tradeAs buy sell price lots sum) (now (trades .entry)) ⌝ }
 {
-    let sum = sum_for(line, price, lots);
     let first = at * NUMBERS_PER_TRADE;
     trades[first] = buy.code;
     trades[first + 1] = sell.code;
@@ -339,6 +198,54 @@ pub fn write_trade(
     trades[first + 5] = price;
     trades[first + 6] = lots;
     trades[first + 7] = sum;
+}
+
+// Money and pieces change hands. Where the price is below the buyer's own, the difference returns to his free money; the
+// seller's need falls by the pieces that he sells.
+fn settle(
+    money: &mut [u64; 512],
+    pieces: &mut [u64; 512],
+    row: Security,
+    buy: Order,
+    sell: Order,
+    fall: u64,
+    sum: u64,
+    sold: u64,
+)
+    requires { ⌜ Settles row buy sell fall sum sold (now money) (now pieces) ⌝ }
+    ensures { λ _. ⌜ now (money .exit) ≡ moneyAfter row buy sell fall sum (now (money .entry)) ⌝ }
+    ensures { λ _. ⌜ now (pieces .exit) ≡ piecesAfter buy sell sold (now (pieces .entry)) ⌝ }
+{
+    let payer = place_of(buy.participant, row.currency);
+    let payee = place_of(sell.participant, row.currency);
+    transfer(money, payer, payee, fall, sum);
+    let holder = place_of(sell.participant, buy.security);
+    let taker = place_of(buy.participant, buy.security);
+    transfer(pieces, holder, taker, sold, sold);
+}
+
+// A trade, whichever session makes it: positions are settled and the list shows it; the answer is Q and T with it.
+pub fn execute(
+    money: &mut [u64; 512],
+    pieces: &mut [u64; 512],
+    trades: &mut [u64],
+    number: usize,
+    row: Security,
+    turnover: Turnover,
+    buy: Order,
+    sell: Order,
+    price: u64,
+    lots: u64,
+) -> Turnover
+    requires { ⌜ Executable row turnover buy sell price lots number (now money) (now pieces) (now trades) ⌝ }
+    ensures { λ r. ⌜ Executes row turnover buy sell price lots number (now (money .entry)) (now (pieces .entry)) (now (trades .entry)) (now (money .exit)) (now (pieces .exit)) (now (trades .exit)) r ⌝ }
+{
+    let fall = fall_of(row, turnover, buy, lots);
+    let sold = pieces_of(row, lots);
+    let sum = price * sold;
+    write_trade(trades, number, buy, sell, price, lots, sum);
+    settle(money, pieces, row, buy, sell, fall, sum, sold);
+    counted(turnover, sold, sum)
 }
 
 // A trade is of as many lots as both orders have.
@@ -358,35 +265,61 @@ fn if_buy(side: Side, first: Order, second: Order) -> Order
     }
 }
 
-// The entry trades with the order at place `at`, at the waiting order's price.
-fn trade_with(s: State, e: Order, at: usize, lots: u64, trades: &mut [u64], number: usize) -> State
-    requires { ⌜ TradeReady s e at lots number (now trades) ⌝ }
-    ensures { λ r. ⌜ TradeDone s e at lots number (now (trades .entry)) (now (trades .exit)) r ⌝ }
+// The entry trades with a waiting order, at the waiting order's price.
+fn trade_with(
+    money: &mut [u64; 512],
+    pieces: &mut [u64; 512],
+    trades: &mut [u64],
+    number: usize,
+    row: Security,
+    turnover: Turnover,
+    e: Order,
+    o: Order,
+    lots: u64,
+) -> Turnover
+    requires { ⌜ Executable row turnover (buyOf e o) (sellOf e o) (priceOf o) lots number (now money) (now pieces) (now trades) ⌝ }
+    ensures { λ r. ⌜ Executes row turnover (buyOf e o) (sellOf e o) (priceOf o) lots number (now (money .entry)) (now (pieces .entry)) (now (trades .entry)) (now (money .exit)) (now (pieces .exit)) (now (trades .exit)) r ⌝ }
 {
-    let o = s.orders[at];
     let kind = o.kind;
     let price = price_of(kind);
     let side = e.side;
     let buy = if_buy(side, e, o);
     let sell = if_buy(side, o, e);
-    let security = buy.security as usize;
-    let line = s.table[security];
-    write_trade(trades, number, line, buy, sell, price, lots);
-    traded(s, buy, sell, at, price, lots)
+    execute(
+        money,
+        pieces,
+        trades,
+        number,
+        row,
+        turnover,
+        buy,
+        sell,
+        price,
+        lots,
+    )
 }
 
-// The fill of an entry whose need is blocked.
-pub fn fill(s: State, e: Order, trades: &mut [u64]) -> Filled
-    requires { ⌜ (InFlight (view s) e) × (numbersPerTrade * s .count ≤ length (now trades)) ⌝ }
-    ensures { λ r. ⌜ Fills s e (now (trades .entry)) (now (trades .exit)) r ⌝ }
+// The fill of an entry whose need is blocked; `row` is its security's. Its code is given here, so that the book is
+// handed on as it came.
+pub fn fill(
+    b: OrderBook,
+    e: Order,
+    row: Security,
+    money: &mut [u64; 512],
+    pieces: &mut [u64; 512],
+    trades: &mut [u64],
+) -> OrderBook
+    requires { ⌜ Fillable row b e (now money) (now pieces) (now trades) ⌝ }
+    ensures { λ r. ⌜ Fills row b e (now (money .entry)) (now (pieces .entry)) (now (trades .entry)) (now (money .exit)) (now (pieces .exit)) (now (trades .exit)) r ⌝ }
 {
-    let mut state = s;
+    let mut book = b;
+    let security = e.security as usize;
     let mut left = e.lots;
     let mut made: usize = 0;
     // Matching ends at the first of: the entry is full, or no waiting counter order fits.
     'fill: while 0 < left {
         // Best price comes first, then lowest code: the list is by rising code.
-        let count = state.count;
+        let count = book.count;
         let mut best = Found::Nothing;
         let mut i: usize = 0;
         let at = 'search: loop {
@@ -396,20 +329,44 @@ pub fn fill(s: State, e: Order, trades: &mut [u64]) -> Filled
                 };
                 break 'search at;
             }
-            let o = state.orders[i];
+            let o = book.orders[i];
             best = preferred(e, best, o, i);
             i += 1;
         };
-        let o = state.orders[at];
+        let o = book.orders[at];
         let lots = lesser(left, o.lots);
         let entry = with_lots(e, left);
-        state = trade_with(state, entry, at, lots, trades, made);
+        let turnover = book.turnover[security];
+        book.turnover[security] = trade_with(
+            money,
+            pieces,
+            trades,
+            made,
+            row,
+            turnover,
+            entry,
+            o,
+            lots,
+        );
+        // A filled order gives its place up. In a function of its own this would copy the book.
+        if o.lots <= lots {
+            let last = count - 1;
+            let mut j = at;
+            while j < last {
+                let later = book.orders[j + 1];
+                book.orders[j] = later;
+                j += 1;
+            }
+            book.count = last;
+        } else {
+            book.orders[at] = with_lots(o, o.lots - lots);
+        }
         left -= lots;
         made += 1;
     }
-    Filled {
-        state,
-        left,
-        trades: made as u64,
-    }
+    book.codes = e.code;
+    book.filled = e.lots - left;
+    book.left = left;
+    book.trades = made as u64;
+    book
 }

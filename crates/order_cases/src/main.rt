@@ -1,9 +1,9 @@
 // Document 01's edge cases of order entry and cancellation, run on the engine: lot 10, step 5.
 use engine::cancel;
-use engine::enter_order;
 use engine::increase_money;
 use engine::increase_pieces;
 use engine::opening;
+use host::enter_order;
 use market::Outcome;
 use market::Security;
 use market::Side;
@@ -66,10 +66,10 @@ fn offered(money: u64) -> State {
 }
 
 fn positions(s: State) {
-    show::position(b"money of 0", s.money[0]);
-    show::position(b"money of 1", s.money[16]);
-    show::position(b"pieces of 0", s.pieces[0]);
-    show::position(b"pieces of 1", s.pieces[16]);
+    show::money(b"money of 0", s, 0);
+    show::money(b"money of 1", s, 16);
+    show::pieces(b"pieces of 0", s, 0);
+    show::pieces(b"pieces of 1", s, 16);
 }
 
 fn example() {

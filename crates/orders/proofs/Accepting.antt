@@ -1,111 +1,211 @@
--- What the entry of an order did is what the definition says.
-use Prim.Native.Nat.{ℕ, zero, suc, _-_, _≤_, _<_}
+-- The entry of an order that passed its questions, step by step on the parts of the day.
+use Prim.Native.Nat.{ℕ, _+_, _-_, _≤_, _<_, min}
 use native.Mathlib.Omega.{arith}
 use mathlib.Core.Path.{_≡_, refl, ap, sym, _∙_, subst}
-use mathlib.Core.List.{List}
+use mathlib.Core.List.{List, [], _∷_}
 use mathlib.Core.Bool.{true}
-use lib.ListN.{length}
-use Rattle.market.specs.declared.Answer.{Answer}
-use Rattle.market.specs.declared.Answer.the-variants.{Done, Refused}
-use Rattle.market.specs.declared.Member.{Member}
+use lib.ListN.{length, set}
+use borrow.Author.Tests.{ltb-true}
 use Rattle.market.specs.declared.Order.{Order}
-use Rattle.market.specs.declared.Outcome.{Outcome}
-use Rattle.market.specs.declared.State.{State}
+use Rattle.market.specs.declared.OrderBook.{OrderBook}
+use Rattle.market.specs.declared.Security.{Security}
 use Rattle.market.specs.declared.TimeInForce.{TimeInForce}
-use Rattle.market.specs.Day.{Day, Sized, view, withLots}
-use Rattle.market.specs.Sound.{sound}
+use Rattle.market.specs.declared.TimeInForce.the-variants.{FillOrKill, ImmediateOrCancel, Kept}
+use Rattle.market.specs.declared.Turnover.{Turnover}
+use Rattle.market.specs.Limits.{maxLots, maxPrice, maxSecurities, maxWaiting}
+use Rattle.market.specs.declared.Rules.{Rules}
+use Rattle.market.specs.Day.{Day, turnoverAt, withCodes, withLots}
+use Rattle.market.specs.Needs.{limitOf}
+use Rattle.market.specs.Positions.{block, blockFor, release, releaseFor}
 use Rattle.market.specs.TradeList.{written}
-use Rattle.market.specs.Answers.{Result, refused}
-use Rattle.market.specs.Calls.{entryOf}
+use Rattle.market.specs.Questions.{covered, orderQuestions, roomFor}
 use Rattle.market.specs.Matching.{Filled, fill}
 use Rattle.market.specs.Entry.{admitted, entered, finished, leftWaiting}
-use Rattle.market.specs.Step.{answerBy}
-use Rattle.market.specs.Contract.{HandedBack}
-use Rattle.market.proofs.View.{first-length}
-use Rattle.matching.specs.declared.Filled as code
-use Rattle.matching.specs.Filling.{Fills}
-use Rattle.orders.specs.Entering.{Enters, Finishes, Gives, entering, orderNo}
-use Rattle.orders.proofs.Allowing.{counts, finishes, left-few, sound-after}
+use Rattle.market.proofs.Logic.{within-high}
+use Rattle.market.proofs.Questions.{all-yes, yes}
+use Rattle.market.proofs.Needs.{kept-limit}
+use Rattle.market.proofs.Known.{is-kept, kept-price}
+use Rattle.market.proofs.View.{first-append, first-length}
+use Rattle.invariant.specs.Standing.{InFlight, PricedOk}
+use Rattle.invariant.proofs.Flight.{FewTrades, fill-few, fill-flight}
+use Rattle.invariant.proofs.Entry.{flight-starts}
+use Rattle.matching.specs.Filling.{FilledAs, Flies, openDay}
+use Rattle.matching.specs.Orders.{coded, waitingIn}
+use Rattle.waiting.specs.Claims.{Blockable, Freeable, moneyWith, piecesWith}
+use Rattle.waiting.proofs.Days.{blocks, day-moved, frees}
+use Rattle.orders.specs.Entering.{Accepts, EntersAs}
+use Rattle.orders.proofs.Finishing.{day-done, day-waits, part-frees, waits-part}
 
-module _ (d : Day) (size : Sized d) (sounds : sound d ≡ true) (p : ℕ) (m : Member) (k : TimeInForce)
-    (asked : orderNo d p m k ≡ 0) (e : Order) (ee : e ≡ entryOf d p m) (q : State) (eq : view q ≡ admitted d e)
-    (l l′ : List ℕ) (r : code.Filled) (f : Fills q e l l′ r) (rest : Order) (er : rest ≡ withLots e (r .left)) where
-  abbrev filled : Filled
-  filled = fill (admitted d (entryOf d p m)) (entryOf d p m)
+-- what its questions tell of an entry
+record Passed (d : Day) (e : Order) (f : TimeInForce) : Type 0 where
+  flight : InFlight (admitted d e) e
+  covers : covered d e ≡ true
+  participant : e .participant < d .rules .participants
+  security : e .security < d .rules .securities
+  top : e .lots ≤ maxLots
+  priced : PricedOk (d .rules) e
+  code : e .code ≡ d .codes + 1
+  room : roomFor f d ≡ true
 
-  same : fill (view q) e ≡ filled
-  same = ap (λ (x : Day). fill x e) eq ∙ ap (λ (o : Order). fill (admitted d o) o) ee
+priced-limit : (r : Rules) (t : List Turnover) (e : Order) → PricedOk r e → limitOf t e ≤ maxPrice
+priced-limit r t e h =
+    omega (arith, kept-limit t e (is-kept r (e .security) (e .kind) h), (kept-price r (e .security) (e .kind) h) .1)
 
-  day : view (r .state) ≡ filled .day
-  day = f .day ∙ ap (λ (x : Filled). x .day) same
+module _ {r : Rules} {l : Security} {b : OrderBook} {e : Order} {f : TimeInForce} {m k : List ℕ}
+    (a : Accepts r l b e f m k) where
+  abbrev d : Day
+  d = openDay r m k b
 
-  left : r .left ≡ filled .entry .lots
-  left = f .left ∙ ap (λ (x : Filled). x .entry .lots) same
+  passed : Passed d e f
+  unfolding orderQuestions
+  passed =
+      let p = a .participant in
+      let q = a .member in
+      let qs = orderQuestions d p q f in
+      let y = all-yes qs tt (a .asked) in
+      subst (λ (x : Order). Passed d x f) (sym (a .entry))
+      (record {
+        flight = flight-starts d p q f (a .standing) (a .asked);
+        covers = yes 14 qs y;
+        participant = ltb-true p (r .participants) (yes 4 qs y);
+        security = ltb-true (q .security) (r .securities) (yes 5 qs y);
+        top = within-high 1 maxLots (q .lots) (yes 7 qs y);
+        priced = yes 8 qs y;
+        code = refl;
+        room = yes 12 qs y;
+      })
 
-  entry : rest ≡ filled .entry
-  entry = er ∙ f .entry ∙ ap (λ (x : Filled). x .entry) same
+  pub listed : e .security < maxSecurities
+  listed = omega (arith, passed .security, a .standing .backed .rulesOk .securities)
 
-  pub part : r .left ≤ e .lots
-  part = omega (arith, left, ap (λ (o : Order). o .lots) ee, left-few d size sounds p m k asked)
+  pub blockable : Blockable l (turnoverAt (b .turnover) (e .security)) e m k
+  blockable =
+      let p = passed in
+      blocks d l e (a .row) [] (a .standing .backed) (p .participant) (p .security)
+      (priced-limit r (b .turnover) e (p .priced)) (p .top) (p .covers)
 
-  pub rest-finishes : Finishes (view (r .state)) k rest
-  rest-finishes =
-      subst (λ (x : Day). Finishes x k rest) (sym day)
-      (subst (λ (o : Order). Finishes (filled .day) k o) (sym entry) (finishes d size sounds p m k asked))
+  -- money m1 and pieces k1 with its need blocked, and its code given
+  module _ {m1 k1 : List ℕ} (em : m1 ≡ moneyWith block l (turnoverAt (b .turnover) (e .security)) e m)
+      (ek : k1 ≡ piecesWith block l (turnoverAt (b .turnover) (e .security)) e k) where
+    abbrev b1 : OrderBook
+    b1 = coded b e
 
-  pub gives-entered : (z : State) (n : ℕ) → view z ≡ finished k (view (r .state)) rest → n ≡ leftWaiting k rest
-      → Gives (entered d (entryOf d p m) k) l l′
-      (record { answer = Done (e .code) (e .lots - r .left) n (r .trades); state = z })
-  unfolding entered
-  gives-entered z n ez en =
-      let code : e .code ≡ (entryOf d p m) .code = ap (λ (o : Order). o .code) ee in
-      let lots : e .lots ≡ m .lots = ap (λ (o : Order). o .lots) ee in
-      let waits : n ≡ leftWaiting k (filled .entry) = en ∙ ap (leftWaiting k) entry in
-      let trades : r .trades ≡ length (filled .trades) = f .count ∙ ap (λ (x : Filled). length (x .trades)) same in
-      record {
-        answer = rw (code, lots, left, waits, trades);
-        day = ez ∙ ap (λ (x : Day). finished k x rest) day ∙ ap (finished k (filled .day)) entry;
-        list = f .list ∙ ap (λ (x : Filled). written (x .trades) l) same;
-      }
+    day-admitted : openDay r m1 k1 b1 ≡ admitted d e
+    unfolding admitted blockFor
+    day-admitted =
+        ap (λ (n : ℕ). withCodes (openDay r m1 k1 b1) n) (passed .code)
+        ∙ day-moved (withCodes d (b .codes + 1)) l e (a .row) block m1 k1 em ek
 
--- a refusal, with the first "no"
-pub enters-refused : (s : State) (p : ℕ) (m : Member) (k : TimeInForce) (l : List ℕ) (n : ℕ) → 0 < n
-    → n ≡ orderNo (view s) p m k → sound (view s) ≡ true
-    → Enters s p m k l l (record { answer = Refused n 0; state = s })
-enters-refused s p m k l zero h e t = absurd (omega arith)
-enters-refused s p m k l (suc n) h e t =
-    let same : refused (view s) (suc n) 0 ≡ entering (view s) p m k =
-    ap (λ (x : ℕ). answerBy x (view s) (entered (view s) (entryOf (view s) p m) k)) e in
-    record {
-      gives = record {
-        answer = ap (λ (x : Result). x .answer) same;
-        day = ap (λ (x : Result). x .day) same;
-        list = ap (λ (x : Result). written (x .trades) l) same;
-      };
-      refusal = refl;
-      stays = t;
-      count = omega (arith, ap (λ (x : Result). length (x .trades)) same);
-    }
+    pub flies : Flies r l b1 e m1 k1
+    flies = record { row = a .row; flight = subst (λ (x : Day). InFlight x e) (sym day-admitted) (passed .flight) }
 
--- an accepted order
-pub enters-accepted : (s : State) (p : ℕ) (m : Member) (k : TimeInForce) (l l′ : List ℕ) (o : Outcome) → Sized (view s)
-    → sound (view s) ≡ true → orderNo (view s) p m k ≡ 0 → Gives (entered (view s) (entryOf (view s) p m) k) l l′ o
-    → Enters s p m k l l′ o
-unfolding entered
-enters-accepted s p m k l l′ o size t asked g =
-    let d = view s in
-    let same : entering d p m k ≡ entered d (entryOf d p m) k =
-    ap (λ (x : ℕ). answerBy x d (entered d (entryOf d p m) k)) asked in
-    record {
-      gives = subst (λ (x : Result). Gives x l l′ o) (sym same) g;
-      refusal = subst (λ (a : Answer). HandedBack s a (o .state)) (sym (g .answer)) tt;
-      stays = ap sound (g .day) ∙ sound-after d size t p m k asked;
-      count = omega (
-        arith,
-        counts d size t p m k asked,
-        ap (λ (x : Result). length (x .trades)) same,
-        ap (λ (x : Day). length (x .waiting)) (g .day),
-        first-length (o .state .count) (o .state .orders),
-        first-length (s .count) (s .orders),
-      );
-    }
+    -- and matched: order book b2, money m2, pieces k2
+    module _ {m2 k2 v v2 : List ℕ} {b2 : OrderBook} (g : FilledAs (fill (openDay r m1 k1 b1) e) r e v m2 k2 v2 b2) where
+      abbrev filled : Filled
+      filled = fill (openDay r m1 k1 b1) e
+
+      abbrev d2 : Day
+      d2 = openDay r m2 k2 b2
+
+      abbrev rest : Order
+      rest = withLots e (b2 .left)
+
+      few : FewTrades (openDay r m1 k1 b1) e filled
+      few = fill-few (openDay r m1 k1 b1) e
+
+      left-is : b2 .left ≡ filled .entry .lots
+      left-is = ap (λ (o : Order). o .lots) (g .entry)
+
+      pub part : b2 .left ≤ e .lots
+      part = omega (arith, few .less, left-is)
+
+      landed : InFlight d2 rest
+      landed =
+          subst (λ (x : Day). InFlight x rest) (sym (g .day))
+          (subst (λ (o : Order). InFlight (filled .day) o) (sym (g .entry)) (fill-flight (openDay r m1 k1 b1) e (flies .flight)))
+
+      -- what of it does not wait can be freed
+      pub freeable : (n : ℕ) → n ≡ leftWaiting f rest
+          → Freeable l (turnoverAt (b2 .turnover) (e .security)) (withLots rest (b2 .left - n)) m2 k2
+      freeable n en =
+          let h = landed in
+          part-frees l (turnoverAt (b2 .turnover) (e .security)) rest m2 k2 n (omega (arith, waits-part f rest))
+          (frees d2 l rest (a .row) (rest ∷ []) (h .backed) (h .participant) (h .security)
+          (priced-limit r (b2 .turnover) rest (h .entryPriced)) (h .top) (λ y j. omega arith))
+
+      -- and there is a place for what waits
+      pub place-left : (n : ℕ) → n ≡ leftWaiting f rest → 0 < n → b2 .count < maxWaiting
+      place-left n en h =
+          let count : length (waitingIn b2) ≡ length (filled .day .waiting) = ap (λ (x : Day). length (x .waiting)) (g .day) in
+          go f (passed .room) (omega (arith, en)) count (first-length (b2 .count) (b2 .orders)) (few .count)
+        where
+          go : (f : TimeInForce) → roomFor f d ≡ true → 0 < leftWaiting f rest
+              → length (waitingIn b2) ≡ length (filled .day .waiting) → length (waitingIn b2) ≡ b2 .count
+              → length (filled .trades) + (length (filled .day .waiting) + min 1 (filled .entry .lots))
+              ≤ length (waitingIn b) + min 1 (e .lots) → b2 .count < maxWaiting
+          go Kept room some count own all =
+              omega (arith, left-is, ltb-true (length (waitingIn b)) maxWaiting room)
+          go ImmediateOrCancel room some count own all = absurd (omega arith)
+          go FillOrKill room some count own all = absurd (omega arith)
+
+      -- then n lots of it wait, in order book b3
+      module _ {m3 k3 : List ℕ} (n : ℕ) (en : n ≡ leftWaiting f rest)
+          (em3 : m3 ≡ moneyWith release l (turnoverAt (b2 .turnover) (e .security)) (withLots rest (b2 .left - n)) m2)
+          (ek3 : k3 ≡ piecesWith release l (turnoverAt (b2 .turnover) (e .security)) (withLots rest (b2 .left - n)) k2) where
+        freed : openDay r m3 k3 b2 ≡ releaseFor d2 (withLots rest (b2 .left - n))
+        unfolding releaseFor
+        freed = day-moved d2 l (withLots rest (b2 .left - n)) (a .row) release m3 k3 em3 ek3
+
+        none-waits : n ≤ 0 → openDay r m3 k3 b2 ≡ finished f d2 rest
+        none-waits h = day-done f d2 (openDay r m3 k3 b2) rest n en freed h
+
+        whole : fill (openDay r m1 k1 b1) e ≡ fill (admitted d e) e
+        whole = ap (λ (x : Day). fill x e) day-admitted
+
+        gives : (b3 : OrderBook) → b3 .codes ≡ b2 .codes → b3 .filled ≡ b2 .filled → b3 .left ≡ n → b3 .trades ≡ b2 .trades
+            → openDay r m3 k3 b3 ≡ finished f d2 rest → EntersAs (entered d e f) r v m3 k3 v2 b3
+        unfolding entered
+        gives b3 codes fills left trades day =
+            let x = fill (admitted d e) e in
+            let code : b3 .codes ≡ e .code = codes ∙ ap (λ (q : Day). q .codes) (g .day) ∙ few .codes in
+            let lots : b3 .filled ≡ e .lots - x .entry .lots =
+            fills ∙ g .filled ∙ ap (λ (q : ℕ). e .lots - q) (left-is ∙ ap (λ (q : Filled). q .entry .lots) whole) in
+            let waits : b3 .left ≡ leftWaiting f (x .entry) =
+            left ∙ en ∙ ap (leftWaiting f) (g .entry ∙ ap (λ (q : Filled). q .entry) whole) in
+            let made : b3 .trades ≡ length (x .trades) =
+            trades ∙ g .count ∙ ap (λ (q : Filled). length (q .trades)) whole in
+            record {
+              answer = rw (code, lots, waits, made);
+              day =
+                  day ∙ ap (λ (q : Day). finished f q rest) (g .day ∙ ap (λ (q : Filled). q .day) whole)
+                  ∙ ap (finished f (x .day)) (g .entry ∙ ap (λ (q : Filled). q .entry) whole);
+              list = g .list ∙ ap (λ (q : Filled). written (q .trades) v) whole;
+            }
+
+        pub gives-done : n ≤ 0
+            → EntersAs (entered d e f) r v m3 k3 v2
+            (record {
+              orders = b2 .orders;
+              count = b2 .count;
+              codes = b2 .codes;
+              turnover = b2 .turnover;
+              filled = b2 .filled;
+              left = n;
+              trades = b2 .trades;
+            })
+        gives-done h = gives _ refl refl refl refl (none-waits h)
+
+        pub gives-waits : 0 < n → b2 .count < length (b2 .orders)
+            → EntersAs (entered d e f) r v m3 k3 v2
+            (record {
+              orders = set (b2 .orders) (b2 .count) rest;
+              count = b2 .count + 1;
+              codes = b2 .codes;
+              turnover = b2 .turnover;
+              filled = b2 .filled;
+              left = n;
+              trades = b2 .trades;
+            })
+        gives-waits h inside =
+            gives _ refl refl refl refl
+            (day-waits f d2 (openDay r m3 k3 b2) rest n en freed h _ (first-append (b2 .count) (b2 .orders) rest inside))

@@ -1,44 +1,121 @@
--- Questions 4 to 7 come first: a "no" among them is the first, and without one each is answered "yes".
+-- The questions of an order in the parts in which code asks them.
 use Prim.Native.Nat.{ℕ, _<_}
 use native.Mathlib.Omega.{arith}
-use mathlib.Core.Path.{_≡_, refl}
+use mathlib.Core.Path.{_≡_, refl, ap, sym, _∙_}
 use mathlib.Core.List.{List, [], _∷_, _++_}
-use mathlib.Core.Bool.{Bool, true, false}
-use Rattle.market.specs.declared.Member.{Member}
+use mathlib.Core.Bool.{true}
+use borrow.Author.Tests.{ltb-true}
+use Rattle.market.specs.declared.Ticket.{Ticket}
+use Rattle.market.specs.declared.OrderBook.{OrderBook}
+use Rattle.market.specs.declared.Phase.{Phase}
+use Rattle.market.specs.declared.Security.{Security}
 use Rattle.market.specs.declared.TimeInForce.{TimeInForce}
-use Rattle.market.specs.Day.{Day, line}
-use Rattle.market.specs.Codes.{codeLeft}
-use Rattle.market.specs.Sound.{priceSound}
+use Rattle.market.specs.declared.TimeInForce.the-variants.{FillOrKill, ImmediateOrCancel, Kept}
+use Rattle.market.specs.declared.Turnover.{Turnover}
+use Rattle.market.specs.Limits.{maxLots, maxPrice, maxSecurities, maxStep}
+use Rattle.market.specs.declared.Rules.{Rules}
+use Rattle.market.specs.Day.{Day, row, turnoverAt}
+use Rattle.market.specs.View.{dayOf}
+use Rattle.market.specs.Sound.{priceSound, rowSound, rulesSound}
 use Rattle.market.specs.Calls.{entryOf}
-use Rattle.market.specs.Questions.{Question, ask, covered, fillable, firstBy, firstNo, orderQuestions, roomFor}
-use Rattle.market.proofs.Questions.{AllYes, all-yes}
-use Rattle.orders.specs.Entering.{earlyQuestions, orderNo}
+use Rattle.market.specs.Questions.{Question, ask, entryQuestions, fillable, firstNo, orderQuestions, roomFor}
+use Rattle.market.proofs.Logic.{and-true, below-all, within-high, within-low}
+use Rattle.market.proofs.Questions.{AllYes, all-yes, hides, passes}
+use Rattle.market.proofs.View.{first-length}
+use Rattle.matching.specs.Orders.{waitingIn}
+use Rattle.waiting.specs.Claims.{Reckonable}
+use Rattle.waiting.proofs.Days.{covered-is}
+use Rattle.orders.specs.Entering.{Askable, EntryNo, Known, earlyQuestions, entryWith, fillableIn, laterQuestions}
+use Rattle.orders.specs.Entering.{orderNo, roomWith}
 
--- a "no" hides what comes after it
-hides : (qs rs : List Question) → 0 < firstNo qs → firstNo (qs ++ rs) ≡ firstNo qs
-hides [] rs h = absurd (omega arith)
-hides (x ∷ qs) rs h = go (hides qs rs) (x .yes?) h
-  where
-    go : (0 < firstNo qs → firstNo (qs ++ rs) ≡ firstNo qs) → (k : Bool) → 0 < firstBy k (x .number) (firstNo qs)
-        → firstBy k (x .number) (firstNo (qs ++ rs)) ≡ firstBy k (x .number) (firstNo qs)
-    go rest true h = rest h
-    go rest false h = refl
+-- the need of an entry with a good price can be reckoned
+pub reckonable : (l : Security) (t : Turnover) {codes p : ℕ} {m : Ticket} → Askable l codes p m
+    → priceSound l (m .price) ≡ true → Reckonable l t (entryWith codes p m)
+unfolding priceSound
+reckonable l t {codes} {p} {m} a price = record {
+  participant = a .participant;
+  security = a .security;
+  currency = a .currency;
+  lot = a .lot;
+  limit = within-high 1 maxPrice (m .price) ((and-true price) .0);
+  top = a .top;
+}
 
--- the questions from 12 on
-abbrev pub laterQuestions : Day → ℕ → Member → TimeInForce → List Question
-laterQuestions d p m k =
-    ask 12 (roomFor k d) ∷
-    ask 13 (codeLeft d p) ∷
-    ask 14 (covered d (entryOf d p m)) ∷
-    ask 15 (fillable k d (entryOf d p m)) ∷ []
+-- the table's questions, of a day of these parts
+module _ (r : Rules) (x : Phase) (money pieces : List ℕ) (b : OrderBook) (p : ℕ) (m : Ticket) (k : TimeInForce) where
+  abbrev d : Day
+  d = dayOf r x money pieces b
 
-module _ (d : Day) (p : ℕ) (m : Member) where
-  pub early-first : (k : TimeInForce) → 0 < firstNo (earlyQuestions d p m)
-      → orderNo d p m k ≡ firstNo (earlyQuestions d p m)
+  room-is : (k : TimeInForce) → roomWith k (b .count) ≡ roomFor k d
+  room-is Kept = rw (first-length (b .count) (b .orders))
+  room-is ImmediateOrCancel = refl
+  room-is FillOrKill = refl
+
+  -- those from 4 to 14
+  asked-in-parts : firstNo (entryQuestions d p m k)
+      ≡ firstNo (earlyQuestions (r .participants) (r .securities) x p m
+      ++ laterQuestions (row r (m .security)) (turnoverAt (b .turnover) (m .security)) (b .count) (b .codes) p m k money pieces)
+  asked-in-parts = rw (room-is k, covered-is d (row r (m .security)) (entryWith (b .codes) p m) refl)
+
+  fillable-is : (k : TimeInForce) → fillableIn k (waitingIn b) (entryWith (b .codes) p m) ≡ fillable k d (entryOf d p m)
+  fillable-is Kept = refl
+  fillable-is ImmediateOrCancel = refl
+  fillable-is FillOrKill = refl
+
+  -- and 15 after them
+  pub whole-last : orderNo d p m k
+      ≡ firstNo (entryQuestions d p m k ++ (ask 15 (fillableIn k (waitingIn b) (entryWith (b .codes) p m)) ∷ []))
   unfolding orderQuestions
-  early-first k h =
-      hides (earlyQuestions d p m) (ask 8 (priceSound (line (d .rules) (m .security)) (m .price)) ∷ laterQuestions d p m k)
-      h
+  whole-last = rw (fillable-is k)
 
-  pub early-yes : firstNo (earlyQuestions d p m) ≡ 0 → AllYes (earlyQuestions d p m)
-  early-yes e = all-yes (earlyQuestions d p m) tt e
+-- the first "no" of 4 to 14, where so many codes are given
+module _ (r : Rules) (x : Phase) (codes p : ℕ) (m : Ticket) where
+  abbrev early : List Question
+  early = earlyQuestions (r .participants) (r .securities) x p m
+
+  abbrev later : List Turnover → (count codes : ℕ) → List ℕ → List ℕ → TimeInForce → List Question
+  later t count codes money pieces k =
+      laterQuestions (row r (m .security)) (turnoverAt t (m .security)) count codes p m k money pieces
+
+  pub no-early : (t : List Turnover) (count : ℕ) (money pieces : List ℕ) (k : TimeInForce) (n : ℕ) → 0 < n → n ≡ firstNo early
+      → EntryNo r x t count codes money pieces p m k n
+  no-early t count money pieces k n h e = λ b turnover counted given.
+      let rest = later (b .turnover) (b .count) (b .codes) money pieces k in
+      e ∙ sym (asked-in-parts r x money pieces b p m k ∙ hides early rest (omega arith))
+
+  -- 4 to 7 are answered "yes"
+  module _ (known : Known r codes) (none : firstNo early ≡ 0) where
+    yeses : AllYes early
+    yeses = all-yes early tt none
+
+    listed : m .security < r .securities
+    listed = ltb-true (m .security) (r .securities) (yeses .1 .0)
+
+    pub in-rules : m .security < maxSecurities
+    in-rules = omega (arith, listed, known .rules .securities)
+
+    pub askable : Askable (row r (m .security)) codes p m
+    unfolding rulesSound rowSound
+    askable =
+        let ok = known .rules in
+        let l : rowSound (r .currencies) (row r (m .security)) ≡ true =
+        below-all (r .securities) (λ x. rowSound (r .currencies) (row r x)) ((and-true (ok .sound)) .1) (m .security) listed in
+        record {
+          given = known .codes;
+          step = within-low 1 maxStep ((row r (m .security)) .step) ((and-true ((and-true l) .1)) .1);
+          participant = omega (arith, ltb-true p (r .participants) (yeses .0), ok .participants);
+          security = omega (arith, listed, ok .securities);
+          currency = omega (arith, ok .currency (m .security) listed, ok .currencies);
+          lot = ok .lot (m .security) listed;
+          top = within-high 1 maxLots (m .lots) (yeses .1 .1 .1 .0);
+        }
+
+    pub no-later : (t : List Turnover) (count : ℕ) (money pieces : List ℕ) (k : TimeInForce) (n : ℕ)
+        → n ≡ firstNo (later t count codes money pieces k) → EntryNo r x t count codes money pieces p m k n
+    no-later t count money pieces k n e = λ b turnover counted given.
+        let rest = later (b .turnover) (b .count) (b .codes) money pieces k in
+        e
+        ∙ ap (λ (z : List Turnover). firstNo (later z count codes money pieces k)) (sym turnover)
+        ∙ ap (λ (z : ℕ). firstNo (later (b .turnover) z codes money pieces k)) (sym counted)
+        ∙ ap (λ (z : ℕ). firstNo (later (b .turnover) (b .count) z money pieces k)) (sym given)
+        ∙ sym (asked-in-parts r x money pieces b p m k ∙ passes early rest yeses)

@@ -1,73 +1,109 @@
--- From the entry of an order, and from a search, to the contracts of the calls.
+-- From the questions and the entry of an order on the parts of a sound day to the contract of the call.
 use Prim.Native.Nat.{ℕ, _≤_, _<_}
-use mathlib.Core.Path.{_≡_, refl, ap, sym, _∙_, subst}
-use mathlib.Core.List.{List, []}
-use mathlib.Core.Bool.{true}
+use native.Mathlib.Omega.{arith}
+use mathlib.Core.Path.{_≡_, ap, sym, _∙_}
+use mathlib.Core.List.{List}
+use mathlib.Core.Bool.{true, false}
 use lib.ListN.{length}
-use borrow.Author.Tests.{le-leb, lt-leb, le-ltb, lt-ltb}
-use Rattle.market.specs.declared.Answer.the-variants.{Done}
-use Rattle.market.specs.declared.Member.{Member}
-use Rattle.market.specs.declared.Outcome.{Outcome}
-use Rattle.market.specs.declared.State.{State}
+use borrow.Author.Tests.{le-leb, lt-leb}
+use Rattle.market.specs.declared.Answer.the-variants.{Done, Refused}
+use Rattle.market.specs.declared.Ticket.{Ticket}
+use Rattle.market.specs.declared.Order.{Order}
+use Rattle.market.specs.declared.OrderBook.{OrderBook}
+use Rattle.market.specs.declared.Phase.{Phase}
+use Rattle.market.specs.declared.Rules.{Rules}
 use Rattle.market.specs.declared.TimeInForce.{TimeInForce}
-use Rattle.market.specs.Limits.{lentAtLeast}
-use Rattle.market.specs.Day.{view}
-use Rattle.market.specs.Sound.{sound}
-use Rattle.market.specs.Waiting.{leave, nowhere, placeOf, somewhere}
+use Rattle.market.specs.Limits.{lentAtLeast, maxSecurities}
+use Rattle.market.specs.Day.{Day, row}
+use Rattle.market.specs.View.{dayOf}
 use Rattle.market.specs.TradeList.{written}
 use Rattle.market.specs.Answers.{Result}
-use Rattle.market.specs.Calls.{Call, cancel, order}
-use Rattle.market.specs.Questions.{firstNo, questions}
-use Rattle.market.specs.Step.{effect, result, step}
-use Rattle.market.specs.Contract.{Does, HandedBack}
-use Rattle.market.proofs.Step.{does-accept}
-use Rattle.conservation.proofs.Listed.{Located, place-located}
-use Rattle.orders.specs.Entering.{Enters, Gives, entering}
+use Rattle.market.specs.Calls.{Call, order}
+use Rattle.market.specs.Questions.{Question, entryQuestions, firstNo, questions}
+use Rattle.market.specs.Entry.{entered}
+use Rattle.market.specs.Step.{effect}
+use Rattle.market.specs.Parts.{Carries, Ready}
+use Rattle.market.proofs.Parts.{carries-accept, carries-refuse}
+use Rattle.invariant.specs.Standing.{Standing}
+use Rattle.invariant.proofs.Sound.{ready-standing}
+use Rattle.matching.specs.Filling.{openDay}
+use Rattle.matching.specs.Orders.{FewLots, waitingIn}
+use Rattle.orders.specs.Entering.{Accepts, Enterable, Enters, Known, entryWith, fillableIn, orderNo}
+use Rattle.orders.proofs.Answered as answered
 
--- a call with the result x, and code that gives x
-pub does-give : (s : State) (l l′ : List ℕ) (c : Call) (o : Outcome) (x : Result) → result (view s) (length l) c ≡ x
-    → Gives x l l′ o → HandedBack s (o .answer) (o .state) → Does s l c o l′
-unfolding step
-does-give s l l′ c o x e g back = record {
-  meets = record {
-    answer = g .answer ∙ ap (λ (y : Result). y .answer) (sym e);
-    state = g .day ∙ ap (λ (y : Result). y .day) (sym e);
-    list = g .list ∙ ap (λ (y : Result). written (y .trades) l) (sym e);
-  };
-  refusal = back;
-}
+module _ (r : Rules) (x : Phase) (m k : List ℕ) (b : OrderBook) (ready : Ready r x m k b) where
+  abbrev d : Day
+  d = dayOf r x m k b
 
--- an order's call from its entry on
-module _ (s : State) (p : ℕ) (m : Member) (k : TimeInForce) (l : List ℕ) (t : sound (view s) ≡ true) where
-  pub order-short : length l < lentAtLeast → firstNo (questions (view s) (length l) (order p m k)) ≡ 2
-  unfolding questions
-  order-short h = rw (t, lt-leb lentAtLeast (length l) h)
+  standing : Standing d
+  standing = ready-standing ready
 
-  pub order-does : (l′ : List ℕ) (o : Outcome) → lentAtLeast ≤ length l → Enters s p m k l l′ o
-      → Does s l (order p m k) o l′
-  unfolding questions result effect
-  order-does l′ o h e =
-      does-give s l l′ (order p m k) o (entering (view s) p m k) (rw (t, le-leb lentAtLeast (length l) h)) (e .gives)
-      (e .refusal)
+  pub rules-known : Known r (b .codes)
+  rules-known = answered.rules-known r x m k b standing
 
--- a cancellation
-module _ (s : State) (p c : ℕ) (t : sound (view s) ≡ true) where
-  pub cancel-unknown : (view s) .rules .participants ≤ p → firstNo (questions (view s) 0 (cancel p c)) ≡ 4
-  unfolding questions
-  cancel-unknown h = rw (t, le-ltb p ((view s) .rules .participants) h)
+  pub few-lots : FewLots (b .count) (waitingIn b)
+  few-lots = answered.few-lots r x m k b standing
 
-  pub cancel-none : p < (view s) .rules .participants → placeOf p c ((view s) .waiting) ≡ nowhere
-      → firstNo (questions (view s) 0 (cancel p c)) ≡ 16
-  unfolding questions
-  cancel-none h e = rw (t, lt-ltb p ((view s) .rules .participants) h, e)
+  -- an order, with the list v lent
+  module _ (p : ℕ) (t : Ticket) (f : TimeInForce) (v : List ℕ) where
+    abbrev asked : List Question
+    asked = entryQuestions d p t f
 
-  pub found-waits : (i : ℕ) → placeOf p c ((view s) .waiting) ≡ somewhere i → i < length ((view s) .waiting)
-  found-waits i e = (subst (Located p c ((view s) .waiting)) e (place-located p c ((view s) .waiting))) .0
+    abbrev call : Call
+    call = order p t f
 
-  pub cancel-does : (i : ℕ) (z : State) → p < (view s) .rules .participants
-      → placeOf p c ((view s) .waiting) ≡ somewhere i → view z ≡ leave (view s) i
-      → Does s [] (cancel p c) (record { answer = Done c 0 0 0; state = z }) []
-  unfolding questions effect
-  cancel-does i z h e f =
-      does-accept s z [] [] (cancel p c) (Done c 0 0 0) (rw (t, lt-ltb p ((view s) .rules .participants) h, e)) refl
-      (f ∙ rw e) refl tt
+    abbrev declines : ℕ → Type 0
+    declines n = Carries r x m k b v call m k v (record { answer = Refused n 0; phase = x; book = b })
+
+    pub refuse-short : length v < lentAtLeast → declines 2
+    unfolding questions
+    refuse-short h =
+        carries-refuse r x m k b v call (ready .sound) 2 (omega arith) (rw (lt-leb lentAtLeast (length v) h))
+
+    module _ (lent : lentAtLeast ≤ length v) where
+      from-four : firstNo (questions d (length v) call) ≡ orderNo d p t f
+      unfolding questions
+      from-four = rw (le-leb lentAtLeast (length v) lent)
+
+      pub refuse-first : (n : ℕ) → 0 < n → n ≡ firstNo asked → declines n
+      refuse-first n h e =
+          carries-refuse r x m k b v call (ready .sound) n h (from-four ∙ answered.no-first r x m k b standing p t f n h e)
+
+      module _ (none : firstNo asked ≡ 0) {e : Order} (entry : e ≡ entryWith (b .codes) p t) where
+        pub refuse-whole : fillableIn f (waitingIn b) e ≡ false → declines 15
+        refuse-whole h =
+            carries-refuse r x m k b v call (ready .sound) 15 (omega arith)
+            (from-four ∙ answered.no-whole r x m k b standing p t f none entry h)
+
+        -- question 15 is answered "yes"
+        module _ (whole : fillableIn f (waitingIn b) e ≡ true) where
+          clear : orderNo d p t f ≡ 0
+          clear = answered.no-none r x m k b standing p t f none entry whole
+
+          -- its security stands in the table
+          pub in-table : t .security < maxSecurities
+          in-table = answered.in-table r x m k b standing p t f clear
+
+          accepts : Accepts r (row r (t .security)) b e f m k
+          accepts = answered.accepts r x m k b standing p t f clear entry
+
+          pub enterable : Enterable (row r (t .security)) b e f m k v
+          enterable = record { rules = r; accepts = accepts; lent = omega (arith, lent, few-lots .room) }
+
+          effect-is : effect d call ≡ entered (openDay r m k b) e f
+          unfolding effect
+          effect-is =
+              ap (λ (z : Order). entered d z f) (sym entry)
+              ∙ ap (λ (z : Day). entered z e f) (answered.same-day r x m k b standing p t f clear)
+
+          pub order-enters : (m′ k′ v′ : List ℕ) (b′ : OrderBook)
+              → Enters (row r (t .security)) b e f m k v m′ k′ v′ b′
+              → Carries r x m k b v call m′ k′ v′
+              (record { answer = Done (b′ .codes) (b′ .filled) (b′ .left) (b′ .trades); phase = x; book = b′ })
+          order-enters m′ k′ v′ b′ enters =
+              let y = enters r accepts in
+              let phase = answered.opens r x m k b standing p t f clear in
+              carries-accept r x m k b v call (ready .sound) m′ k′ v′ _ (from-four ∙ clear)
+              (y .answer ∙ sym (ap (λ (z : Result). z .answer) effect-is))
+              (ap (λ (z : Phase). dayOf r z m′ k′ b′) phase ∙ y .day ∙ sym (ap (λ (z : Result). z .day) effect-is))
+              (y .list ∙ sym (ap (λ (z : Result). written (z .trades) v) effect-is))

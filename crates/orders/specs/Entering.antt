@@ -1,58 +1,121 @@
--- The entry of an order from question 4 on, on a State.
-use Prim.Native.Nat.{ℕ, _+_, _≤_, _<_}
+-- The entry of an order on the parts of a day: its questions, what it asks, and what it does.
+use Prim.Native.Nat.{ℕ, _+_, _*_, _≤_, _<_}
 use mathlib.Core.Path.{_≡_}
 use mathlib.Core.List.{List, [], _∷_}
-use mathlib.Core.Bool.{true}
+use mathlib.Core.Bool.{Bool, true}
 use lib.ListN.{length}
-use Rattle.market.specs.declared.Member.{Member}
-use Rattle.market.specs.declared.Outcome.{Outcome}
-use Rattle.market.specs.declared.State.{State}
-use Rattle.market.specs.declared.TimeInForce.{TimeInForce}
+use Rattle.market.specs.declared.Answer.the-variants.{Done}
+use Rattle.market.specs.declared.Kind.the-variants as kind
+use Rattle.market.specs.declared.Ticket.{Ticket}
 use Rattle.market.specs.declared.Order.{Order}
-use Rattle.market.specs.Limits.{maxWaiting}
-use Rattle.market.specs.Tests.{known}
-use Rattle.market.specs.Day.{Day, view}
-use Rattle.market.specs.Sound.{isOpen, lotsSound, sound}
+use Rattle.market.specs.declared.OrderBook.{OrderBook}
+use Rattle.market.specs.declared.Phase.{Phase}
+use Rattle.market.specs.declared.Security.{Security}
+use Rattle.market.specs.declared.TimeInForce.{TimeInForce}
+use Rattle.market.specs.declared.TimeInForce.the-variants.{FillOrKill, ImmediateOrCancel, Kept}
+use Rattle.market.specs.declared.Turnover.{Turnover}
+use Rattle.market.specs.Limits.{columns, maxCodes, maxLot, maxLots, maxWaiting, numbersPerTrade}
+use Rattle.market.specs.Tests.{_<?_, _≤?_, known}
+use Rattle.market.specs.declared.Rules.{Rules}
+use Rattle.market.specs.Day.{Day, row}
+use Rattle.market.specs.View.{dayOf}
+use Rattle.market.specs.Sound.{isOpen, lotsSound, priceSound}
 use Rattle.market.specs.TradeList.{written}
 use Rattle.market.specs.Answers.{Result}
 use Rattle.market.specs.Calls.{entryOf}
-use Rattle.market.specs.Questions.{Question, ask, firstNo, orderQuestions}
-use Rattle.market.specs.Entry.{entered, leftWaiting}
-use Rattle.market.specs.Step.{answerBy}
-use Rattle.market.specs.Contract.{HandedBack}
-use Rattle.waiting.specs.Claims.{Freeable}
+use Rattle.market.specs.Matching.{fitting}
+use Rattle.market.specs.Questions.{Question, ask, entryQuestions, firstNo, orderQuestions}
+use Rattle.market.specs.Entry.{entered}
+use Rattle.market.proofs.Known.{RulesOk}
+use Rattle.invariant.specs.Standing.{Standing}
+use Rattle.matching.specs.Filling.{openDay}
+use Rattle.waiting.specs.Claims.{coveredBy}
 
 -- the first "no" of an order's questions from 4 on
-abbrev pub orderNo : Day → ℕ → Member → TimeInForce → ℕ
+abbrev pub orderNo : Day → ℕ → Ticket → TimeInForce → ℕ
 orderNo d p m k = firstNo (orderQuestions d p m k)
 
--- those of 4 to 7, which ask for no line of the table
-abbrev pub earlyQuestions : Day → ℕ → Member → List Question
-earlyQuestions d p m =
-    ask 4 (known p (d .rules .participants)) ∷
-    ask 5 (known (m .security) (d .rules .securities)) ∷
-    ask 6 (isOpen (d .phase)) ∷
+-- the order as it enters, where so many codes are given
+abbrev pub entryWith : ℕ → ℕ → Ticket → Order
+entryWith codes p m = record {
+  code = codes + 1;
+  participant = p;
+  side = m .side;
+  security = m .security;
+  lots = m .lots;
+  kind = kind.Kept (m .price);
+}
+
+-- questions 12 and 15 on numbers and orders
+abbrev pub roomWith : TimeInForce → ℕ → Bool
+roomWith Kept n = n <? maxWaiting
+roomWith ImmediateOrCancel n = true
+roomWith FillOrKill n = true
+
+abbrev pub fillableIn : TimeInForce → List Order → Order → Bool
+fillableIn Kept w e = true
+fillableIn ImmediateOrCancel w e = true
+fillableIn FillOrKill w e = e .lots ≤? fitting e w
+
+-- the questions that ask for no row of the table
+abbrev pub earlyQuestions : ℕ → ℕ → Phase → ℕ → Ticket → List Question
+earlyQuestions participants securities x p m =
+    ask 4 (known p participants) ∷
+    ask 5 (known (m .security) securities) ∷
+    ask 6 (isOpen x) ∷
     ask 7 (lotsSound (m .lots)) ∷ []
 
--- that number, or the entry
-abbrev pub entering : Day → ℕ → Member → TimeInForce → Result
-entering d p m k = answerBy (orderNo d p m k) d (entered d (entryOf d p m) k)
+-- those that read row and turnover of the order's security, its participant's positions, and counts
+abbrev pub laterQuestions : Security → Turnover → ℕ → ℕ → ℕ → Ticket → TimeInForce → List ℕ → List ℕ → List Question
+laterQuestions l t count codes p m k money pieces =
+    ask 8 (priceSound l (m .price)) ∷
+    ask 12 (roomWith k count) ∷
+    ask 13 (codes <? maxCodes) ∷
+    ask 14 (coveredBy l t (entryWith codes p m) money pieces) ∷ []
 
--- answer, state and list are those of a result
-pub record Gives (x : Result) (l l′ : List ℕ) (o : Outcome) : Type 0 where
-  pub answer : o .answer ≡ x .answer
-  pub day : view (o .state) ≡ x .day
-  pub list : l′ ≡ written (x .trades) l
+-- these can be asked
+pub record Askable (l : Security) (codes p : ℕ) (m : Ticket) : Type 0 where
+  pub given : codes ≤ maxCodes
+  pub step : 0 < l .step
+  pub participant : p < columns
+  pub security : m .security < columns
+  pub currency : l .currency < columns
+  pub lot : l .lot ≤ maxLot
+  pub top : m .lots ≤ maxLots
 
--- the contract of an order's entry: the definition's result, on a state that stays sound
-pub record Enters (s : State) (p : ℕ) (m : Member) (k : TimeInForce) (l l′ : List ℕ) (o : Outcome) : Type 0 where
-  pub gives : Gives (entering (view s) p m k) l l′ o
-  pub refusal : HandedBack s (o .answer) (o .state)
-  pub stays : sound (view (o .state)) ≡ true
-  -- a trade takes a waiting order off, or is the entry's last
-  pub count : length ((entering (view s) p m k) .trades) + o .state .count ≤ s .count + 1
+-- the rules are sound, and the codes given are within the limit
+pub record Known (r : Rules) (given : ℕ) : Type 0 where
+  pub rules : RulesOk r
+  pub codes : given ≤ maxCodes
 
--- what is left of an entry as k can be freed, and a place is left for what of it waits
-pub record Finishes (d : Day) (k : TimeInForce) (e : Order) : Type 0 where
-  pub freeable : Freeable d e
-  pub room : 0 < leftWaiting k e → length (d .waiting) < maxWaiting
+-- n is the first "no" of questions 4 to 14, on every day whose order book has this turnover, count and codes
+abbrev pub EntryNo : Rules → Phase → List Turnover → (count codes : ℕ) → (m k : List ℕ) → ℕ → Ticket → TimeInForce → ℕ → Type 0
+EntryNo r x t count codes m k p ticket f n =
+    (b : OrderBook) → b .turnover ≡ t → b .count ≡ count → b .codes ≡ codes
+    → n ≡ firstNo (entryQuestions (dayOf r x m k b) p ticket f)
+
+-- under rules r, l is the row of the entry's security, the day is sound, and e is an order that passed its questions
+pub record Accepts (r : Rules) (l : Security) (b : OrderBook) (e : Order) (f : TimeInForce) (m k : List ℕ) : Type 0 where
+  pub row : row r (e .security) ≡ l
+  pub standing : Standing (openDay r m k b)
+  pub participant : ℕ
+  pub member : Ticket
+  pub entry : e ≡ entryOf (openDay r m k b) participant member
+  pub asked : orderNo (openDay r m k b) participant member f ≡ 0
+
+-- there are such rules, and room for a trade with each waiting order
+pub record Enterable (l : Security) (b : OrderBook) (e : Order) (f : TimeInForce) (m k v : List ℕ) : Type 0 where
+  pub rules : Rules
+  pub accepts : Accepts rules l b e f m k
+  pub lent : numbersPerTrade * b .count ≤ length v
+
+-- answer, day and lent list are those of a result x
+pub record EntersAs (x : Result) (r : Rules) (v m′ k′ v′ : List ℕ) (b′ : OrderBook) : Type 0 where
+  pub answer : Done (b′ .codes) (b′ .filled) (b′ .left) (b′ .trades) ≡ x .answer
+  pub day : openDay r m′ k′ b′ ≡ x .day
+  pub list : v′ ≡ written (x .trades) v
+
+-- the definition's, under all such rules
+abbrev pub Enters : Security → OrderBook → Order → TimeInForce → (m k v m′ k′ v′ : List ℕ) → OrderBook → Type 0
+Enters l b e f m k v m′ k′ v′ b′ =
+    (r : Rules) → Accepts r l b e f m k → EntersAs (entered (openDay r m k b) e f) r v m′ k′ v′ b′

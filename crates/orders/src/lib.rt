@@ -1,60 +1,59 @@
-// Order entry of the three kinds, and cancellation. Each function takes a sound state by `requires`; the public calls
-// test it.
+// Order entry of the three kinds, and cancellation. Questions are asked by functions that only read, so that a refusal copies nothing;
+// `enter` then moves lent positions and hands the order book on. `row` and `turnover` are those of the order's security.
 use amounts::price_sound;
 use amounts::within;
 use market::Answer;
+use market::Carried;
 use market::Kind;
 use market::LENT_AT_LEAST;
 use market::MAX_CODES;
 use market::MAX_LOTS;
 use market::MAX_WAITING;
-use market::Member;
 use market::Order;
-use market::Outcome;
-use market::Side;
-use market::State;
+use market::OrderBook;
+use market::Phase;
+use market::Rules;
+use market::Security;
+use market::Ticket;
 use market::TimeInForce;
+use market::Turnover;
+use market::declined;
 use market::is_open;
-use market::refused;
 use matching::fill;
 use matching::fitting_lots;
 use matching::with_lots;
-use waiting::admitted;
+use waiting::block_need;
 use waiting::covers;
+use waiting::free_need;
 use waiting::left;
-use waiting::released;
 ghost use mathlib.Core.Path.{_≡_};
 ghost use mathlib.Core.List.{[]};
-ghost use mathlib.Core.Bool.{true};
-ghost use Prim.Native.Nat.{_*_, _≤_};
-ghost use lib.ListN.{length};
-ghost use Rattle.market.specs.Limits.{maxCodes, maxWaiting, numbersPerTrade};
-ghost use Rattle.market.specs.Day.{firstOrders, view};
-ghost use Rattle.market.specs.Sound.{sound};
+ghost use Prim.Native.Nat.{_≤_};
+ghost use Rattle.market.specs.Limits.{maxCodes, maxWaiting};
 ghost use Rattle.market.specs.Waiting.{placeOf};
-ghost use Rattle.market.specs.Calls.{cancel as cancelCall, entryOf, order};
-ghost use Rattle.market.specs.Questions.{fillable, firstNo, roomFor};
-ghost use Rattle.market.specs.Entry.{finished as dayFinished, leftWaiting};
-ghost use Rattle.market.specs.Contract.{Does};
-ghost use Rattle.matching.specs.Orders.{FewLots};
-ghost use Rattle.orders.specs.Entering.{Enters, Finishes, earlyQuestions, orderNo};
+ghost use Rattle.market.specs.Calls.{cancel as cancelCall, order as orderCall};
+ghost use Rattle.market.specs.Questions.{firstNo};
+ghost use Rattle.market.specs.Entry.{leftWaiting};
+ghost use Rattle.market.specs.Parts.{Carries, Ready};
+ghost use Rattle.matching.specs.Orders.{FewLots, waitingIn};
+ghost use Rattle.orders.specs.Entering.{Askable, Enterable, Enters, EntryNo, Known, earlyQuestions, entryWith, fillableIn, laterQuestions, roomWith};
 ghost use Rattle.orders.specs.Finding.{foundAt, isOwn as ownOrder};
 
 // Place of a waiting order.
-enum Found {
+pub enum Found {
     Nothing,
     At(usize),
 }
 
 // The order as it enters, under the next code.
-fn entry_of(s: State, participant: u64, member: Member) -> Order
-    requires { ⌜ s .codes ≤ maxCodes ⌝ }
-    ensures { λ r. ⌜ r ≡ entryOf (view s) participant member ⌝ }
+pub fn entry_of(codes: u64, participant: u64, member: Ticket) -> Order
+    requires { ⌜ codes ≤ maxCodes ⌝ }
+    ensures { λ r. ⌜ r ≡ entryWith codes participant member ⌝ }
 {
     let side = member.side;
     let kind = Kind::Kept(member.price);
     Order {
-        code: s.codes + 1,
+        code: codes + 1,
         participant,
         side,
         security: member.security,
@@ -64,39 +63,44 @@ fn entry_of(s: State, participant: u64, member: Member) -> Order
 }
 
 // Only a kept order may come to wait.
-fn has_room(s: State, force: TimeInForce) -> bool
-    ensures { λ r. ⌜ r ≡ roomFor force (view s) ⌝ }
+fn has_room(count: usize, force: TimeInForce) -> bool
+    ensures { λ r. ⌜ r ≡ roomWith force count ⌝ }
 {
     match force {
-        TimeInForce::Kept => s.count < MAX_WAITING as usize,
+        TimeInForce::Kept => count < MAX_WAITING as usize,
         TimeInForce::ImmediateOrCancel => true,
         TimeInForce::FillOrKill => true,
     }
 }
 
-fn is_fillable(s: State, force: TimeInForce, entry: Order) -> bool
-    requires { ⌜ FewLots (s .count) ((view s) .waiting) ⌝ }
-    ensures { λ r. ⌜ r ≡ fillable force (view s) entry ⌝ }
+// Question 15.
+pub fn is_fillable(book: OrderBook, force: TimeInForce, entry: Order) -> bool
+    requires { ⌜ FewLots (book .count) (waitingIn book) ⌝ }
+    ensures { λ r. ⌜ r ≡ fillableIn force (waitingIn book) entry ⌝ }
 {
     match force {
         TimeInForce::Kept => true,
         TimeInForce::ImmediateOrCancel => true,
-        TimeInForce::FillOrKill => entry.lots <= fitting_lots(s, entry),
+        TimeInForce::FillOrKill => entry.lots <= fitting_lots(book, entry),
     }
 }
 
-// Questions 4 to 7, which ask for no line of the table. Were they asked in `first_no`, the compiler would take what
-// follows them for rare, and hand copies of the state to the calls there.
-fn early_no(s: State, participant: u64, member: Member) -> u64
-    ensures { λ r. ⌜ r ≡ firstNo (earlyQuestions (view s) participant member) ⌝ }
+// The first "no" of questions 4 to 7, which ask for no row of the table; 0 where there is none.
+fn early_no(
+    participants: u64,
+    securities: u64,
+    phase: Phase,
+    participant: u64,
+    member: Ticket,
+) -> u64
+    ensures { λ r. ⌜ r ≡ firstNo (earlyQuestions participants securities phase participant member) ⌝ }
 {
-    if s.participants <= participant {
+    if participants <= participant {
         return 4;
     }
-    if s.securities <= member.security {
+    if securities <= member.security {
         return 5;
     }
-    let phase = s.phase;
     if !is_open(phase) {
         return 6;
     }
@@ -106,34 +110,78 @@ fn early_no(s: State, participant: u64, member: Member) -> u64
     0
 }
 
-// The first "no" from question 4 on; 0 where there is none.
-fn first_no(s: State, participant: u64, member: Member, force: TimeInForce) -> u64
-    requires { ⌜ sound (view s) ≡ true ⌝ }
-    ensures { λ r. ⌜ r ≡ orderNo (view s) participant member force ⌝ }
+// The first "no" of questions 8 and 12 to 14; 0 where there is none.
+fn later_no<'a>(
+    money: &'a [u64; 512],
+    pieces: &'a [u64; 512],
+    row: Security,
+    turnover: Turnover,
+    count: usize,
+    codes: u64,
+    participant: u64,
+    member: Ticket,
+    force: TimeInForce,
+) -> u64
+    requires { ⌜ Askable row codes participant member ⌝ }
+    ensures { λ r. ⌜ r ≡ firstNo (laterQuestions row turnover count codes participant member force (now (money .entry)) (now (pieces .entry))) ⌝ }
 {
-    let early = early_no(s, participant, member);
+    if !price_sound(row, member.price) {
+        return 8;
+    }
+    if !has_room(count, force) {
+        return 12;
+    }
+    if MAX_CODES <= codes {
+        return 13;
+    }
+    let entry = entry_of(codes, participant, member);
+    if !covers(money, pieces, row, turnover, entry) {
+        return 14;
+    }
+    0
+}
+
+// The first "no" of questions 4 to 14, which read no waiting order; 0 where there is none.
+pub fn order_no<'a>(
+    rules: Rules,
+    phase: Phase,
+    turnovers: [Turnover; 16],
+    count: usize,
+    codes: u64,
+    money: &'a [u64; 512],
+    pieces: &'a [u64; 512],
+    participant: u64,
+    ticket: Ticket,
+    force: TimeInForce,
+) -> u64
+    requires { ⌜ Known rules codes ⌝ }
+    ensures { λ r. ⌜ EntryNo rules phase turnovers count codes (now (money .entry)) (now (pieces .entry)) participant ticket force r ⌝ }
+{
+    let early = early_no(
+        rules.participants,
+        rules.securities,
+        phase,
+        participant,
+        ticket,
+    );
     if 0 < early {
         return early;
     }
-    let table = s.table;
-    let line = table[member.security as usize];
-    if !price_sound(line, member.price) {
-        return 8;
-    }
-    if !has_room(s, force) {
-        return 12;
-    }
-    if MAX_CODES <= s.codes {
-        return 13;
-    }
-    let entry = entry_of(s, participant, member);
-    if !covers(s, entry) {
-        return 14;
-    }
-    if !is_fillable(s, force, entry) {
-        return 15;
-    }
-    0
+    let security = ticket.security as usize;
+    let table = rules.table;
+    let row = table[security];
+    let turnover = turnovers[security];
+    later_no(
+        money,
+        pieces,
+        row,
+        turnover,
+        count,
+        codes,
+        participant,
+        ticket,
+        force,
+    )
 }
 
 fn left_waiting(force: TimeInForce, rest: Order) -> u64
@@ -146,74 +194,90 @@ fn left_waiting(force: TimeInForce, rest: Order) -> u64
     }
 }
 
-// What is left of a kept order waits; of any other, its need is freed. The freeing stands in no branch, since a state
-// that goes through a call in a branch is copied: of a kept order it frees the need of no lots.
-fn finished(s: State, force: TimeInForce, rest: Order) -> State
-    requires { ⌜ Finishes (view s) force rest ⌝ }
-    ensures { λ r. ⌜ view r ≡ dayFinished force (view s) rest ⌝ }
-{
-    let waits = left_waiting(force, rest);
-    let dropped = with_lots(rest, rest.lots - waits);
-    let mut next = released(s, dropped);
-    if 0 < waits {
-        let count = next.count;
-        next.orders[count] = rest;
-        next.count = count + 1;
-    }
-    next
-}
-
-// The entry of an order from question 4 on: where all are answered "yes" it is admitted and matched, and what is left of
-// it waits or is freed. In a function of their own these steps would hand the state over in one copy more.
+// The entry of an order whose questions are all answered "yes": its need is blocked and it is matched, and what is left
+// of it waits or is freed.
 pub fn enter(
-    s: State,
-    participant: u64,
-    member: Member,
+    b: OrderBook,
+    entry: Order,
     force: TimeInForce,
+    row: Security,
+    money: &mut [u64; 512],
+    pieces: &mut [u64; 512],
     trades: &mut [u64],
-) -> Outcome
-    requires { ⌜ (sound (view s) ≡ true) × (numbersPerTrade * s .count ≤ length (now trades)) ⌝ }
-    ensures { λ r. ⌜ Enters s participant member force (now (trades .entry)) (now (trades .exit)) r ⌝ }
+) -> OrderBook
+    requires { ⌜ Enterable row b entry force (now money) (now pieces) (now trades) ⌝ }
+    ensures { λ r. ⌜ Enters row b entry force (now (money .entry)) (now (pieces .entry)) (now (trades .entry)) (now (money .exit)) (now (pieces .exit)) (now (trades .exit)) r ⌝ }
 {
-    let number = first_no(s, participant, member, force);
-    if 0 < number {
-        return refused(s, number);
-    }
-    let entry = entry_of(s, participant, member);
-    let filled = fill(admitted(s, entry), entry, trades);
-    let rest = with_lots(entry, filled.left);
-    let matched = filled.state;
-    let state = finished(matched, force, rest);
+    let security = entry.security as usize;
+    let before = b.turnover[security];
+    block_need(money, pieces, row, before, entry);
+    let mut book = fill(b, entry, row, money, pieces, trades);
+    let rest = with_lots(entry, book.left);
     let waits = left_waiting(force, rest);
-    Outcome {
-        answer: Answer::Done(entry.code, entry.lots - filled.left, waits, filled.trades),
-        state,
+    let after = book.turnover[security];
+    // Of a kept order this frees the need of no lots.
+    free_need(
+        money,
+        pieces,
+        row,
+        after,
+        with_lots(rest, rest.lots - waits),
+    );
+    if 0 < waits {
+        let count = book.count;
+        book.orders[count] = rest;
+        book.count = count + 1;
     }
+    book.left = waits;
+    book
 }
 
-pub fn enter_order(
-    s: State,
+// An order of any of the three kinds.
+pub fn order(
+    b: OrderBook,
+    rules: Rules,
+    phase: Phase,
     participant: u64,
-    side: Side,
-    security: u64,
-    price: u64,
-    lots: u64,
+    ticket: Ticket,
     force: TimeInForce,
+    money: &mut [u64; 512],
+    pieces: &mut [u64; 512],
     trades: &mut [u64],
-) -> Outcome
-    requires { ⌜ sound (view s) ≡ true ⌝ }
-    ensures { λ r. ⌜ Does s (now (trades .entry)) (order participant (record { side = side; security = security; price = price; lots = lots }) force) r (now (trades .exit)) ⌝ }
+) -> Carried
+    requires { ⌜ Ready rules phase (now money) (now pieces) b ⌝ }
+    ensures { λ r. ⌜ Carries rules phase (now (money .entry)) (now (pieces .entry)) b (now (trades .entry)) (orderCall participant ticket force) (now (money .exit)) (now (pieces .exit)) (now (trades .exit)) r ⌝ }
 {
     if trades.len() < LENT_AT_LEAST {
-        return refused(s, 2);
+        return declined(b, phase, 2);
     }
-    let member = Member {
-        side,
-        security,
-        price,
-        lots,
-    };
-    enter(s, participant, member, force, trades)
+    let turnovers = b.turnover;
+    let number = order_no(
+        rules,
+        phase,
+        turnovers,
+        b.count,
+        b.codes,
+        &*money,
+        &*pieces,
+        participant,
+        ticket,
+        force,
+    );
+    if 0 < number {
+        return declined(b, phase, number);
+    }
+    let entry = entry_of(b.codes, participant, ticket);
+    if !is_fillable(b, force, entry) {
+        return declined(b, phase, 15);
+    }
+    let table = rules.table;
+    let row = table[ticket.security as usize];
+    let book = enter(b, entry, force, row, money, pieces, trades);
+    Carried {
+        answer: Answer::Done(book.codes, book.filled, book.left, book.trades),
+        phase,
+        book,
+    }
 }
 
 fn is_own(participant: u64, code: u64, o: Order) -> bool
@@ -223,13 +287,14 @@ fn is_own(participant: u64, code: u64, o: Order) -> bool
 }
 
 // The first waiting order of the participant with that code.
-fn find(orders: [Order; 128], count: usize, participant: u64, code: u64) -> Found
-    requires { ⌜ count ≤ maxWaiting ⌝ }
-    ensures { λ r. ⌜ foundAt r ≡ placeOf participant code (firstOrders count orders) ⌝ }
+pub fn find(b: OrderBook, participant: u64, code: u64) -> Found
+    requires { ⌜ b .count ≤ maxWaiting ⌝ }
+    ensures { λ r. ⌜ foundAt r ≡ placeOf participant code (waitingIn b) ⌝ }
 {
+    let count = b.count;
     let mut i: usize = 0;
     while i < count {
-        let o = orders[i];
+        let o = b.orders[i];
         if is_own(participant, code, o) {
             return Found::At(i);
         }
@@ -239,20 +304,32 @@ fn find(orders: [Order; 128], count: usize, participant: u64, code: u64) -> Foun
 }
 
 // The order gives its place up, and its need is freed.
-pub fn cancel(s: State, participant: u64, code: u64) -> Outcome
-    requires { ⌜ sound (view s) ≡ true ⌝ }
-    ensures { λ r. ⌜ Does s [] (cancelCall participant code) r [] ⌝ }
+pub fn cancel(
+    b: OrderBook,
+    rules: Rules,
+    phase: Phase,
+    participant: u64,
+    code: u64,
+    money: &mut [u64; 512],
+    pieces: &mut [u64; 512],
+) -> Carried
+    requires { ⌜ Ready rules phase (now money) (now pieces) b ⌝ }
+    ensures { λ r. ⌜ Carries rules phase (now (money .entry)) (now (pieces .entry)) b [] (cancelCall participant code) (now (money .exit)) (now (pieces .exit)) [] r ⌝ }
 {
-    if s.participants <= participant {
-        return refused(s, 4);
+    if rules.participants <= participant {
+        return declined(b, phase, 4);
     }
-    let orders = s.orders;
-    let found = find(orders, s.count, participant, code);
+    let found = find(b, participant, code);
     let Found::At(at) = found else {
-        return refused(s, 16);
+        return declined(b, phase, 16);
     };
-    Outcome {
+    let o = b.orders[at];
+    let table = rules.table;
+    let row = table[o.security as usize];
+    let book = left(b, at, row, money, pieces);
+    Carried {
         answer: Answer::Done(code, 0, 0, 0),
-        state: left(s, at),
+        phase,
+        book,
     }
 }

@@ -8,7 +8,6 @@ use mathlib.Core.Path.{_≡_, refl, ap}
 use mathlib.Core.List.{List, [], _∷_, _++_, append-assoc, append-nil}
 use lib.ListN.{drop, length, take, length-append, length-take}
 use lib.Seq.{drop-drop}
-use Rattle.market.specs.declared.Position.{Position}
 use Rattle.market.specs.Limits.{numbersPerTrade}
 use Rattle.market.specs.Day.{place, position}
 use Rattle.market.specs.TradeList.{Trade, allNumbers, numbers, written}
@@ -87,7 +86,7 @@ trade-run l = record {
 }
 
 -- the lines of a participant
-pub column-run : (letter : ℕ) (l : List Position) (p : ℕ)
+pub column-run : (letter : ℕ) (l : List ℕ) (p : ℕ)
     → Run (λ c. positionLine letter p c (position l (place p c))) (columnLines letter l p) (lineRoom 4)
 unfolding columnLines positionLine
 column-run letter l p = record {
@@ -97,7 +96,7 @@ column-run letter l p = record {
 }
 
 -- the lines of the participants
-pub participant-run : (letter : ℕ) (l : List Position) (columns : ℕ)
+pub participant-run : (letter : ℕ) (l : List ℕ) (columns : ℕ)
     → Run (λ p. columnLines letter l p columns 0) (participantLines letter l columns) (columns * lineRoom 4)
 unfolding participantLines
 participant-run letter l columns = record {
@@ -121,7 +120,7 @@ module _ {participants columns : ℕ} (mostParticipants mostColumns : ℕ) (h : 
   pub participants-room : participants * (columns * lineRoom 4) ≤ mostParticipants * (mostColumns * lineRoom 4)
   participants-room = mul-le-mul h (mul-le-mul-right (lineRoom 4) k)
 
-  pub participants-length : (letter : ℕ) (l : List Position)
+  pub participants-length : (letter : ℕ) (l : List ℕ)
       → length (participantLines letter l columns participants 0) ≤ mostParticipants * (mostColumns * lineRoom 4)
   participants-length letter l =
       le-trans (run-length (participant-run letter l columns) participants 0) participants-room

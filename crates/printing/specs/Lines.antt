@@ -4,10 +4,9 @@ use mathlib.Core.List.{List, [], _∷_, _++_}
 use mathlib.Core.Bool.{cond}
 use lib.ListN.{drop, take}
 use Rattle.market.specs.declared.Answer.{Answer}
-use Rattle.market.specs.declared.Position.{Position}
 use Rattle.market.specs.Limits.{numbersPerTrade}
 use Rattle.market.specs.Tests.{_<?_}
-use Rattle.market.specs.Day.{Day, place, position}
+use Rattle.market.specs.Day.{Day, Position, place, position}
 use Rattle.market.specs.TradeList.{Trade, numbers}
 use Rattle.market.specs.Answers.{numbersOf}
 
@@ -70,19 +69,25 @@ unfoldable pub positionLine : ℕ → ℕ → ℕ → Position → List ℕ
 positionLine letter p column x = printedLine letter (p ∷ column ∷ x .free ∷ x .blocked ∷ [])
 
 -- the lines of a participant: n columns from c on
-unfoldable pub columnLines : ℕ → List Position → ℕ → ℕ → ℕ → List ℕ
+unfoldable pub columnLines : ℕ → List ℕ → ℕ → ℕ → ℕ → List ℕ
 columnLines letter l p zero c = []
 columnLines letter l p (suc n) c =
     positionLine letter p c (position l (place p c)) ++ columnLines letter l p n (suc c)
 
 -- "by rising participant, then rising second number": n participants from p on, each with all columns
-unfoldable pub participantLines : ℕ → List Position → ℕ → ℕ → ℕ → List ℕ
+unfoldable pub participantLines : ℕ → List ℕ → ℕ → ℕ → ℕ → List ℕ
 participantLines letter l columns zero p = []
 participantLines letter l columns (suc n) p =
     columnLines letter l p columns 0 ++ participantLines letter l columns n (suc p)
 
 -- "After all come the lines M .., then the lines Q .."
-unfoldable pub positionLines : Day → List ℕ
+unfoldable pub positionLinesOf : ℕ → ℕ → ℕ → List ℕ → List ℕ → List ℕ
+positionLinesOf participants currencies securities money pieces =
+    participantLines letterM money currencies participants 0
+    ++ participantLines letterQ pieces securities participants 0
+
+-- the position lines of a day
+abbrev pub positionLines : Day → List ℕ
 positionLines d =
-    participantLines letterM (d .money) (d .rules .currencies) (d .rules .participants) 0
-    ++ participantLines letterQ (d .pieces) (d .rules .securities) (d .rules .participants) 0
+    let r = d .rules in
+    positionLinesOf (r .participants) (r .currencies) (r .securities) (d .money) (d .pieces)

@@ -1,18 +1,15 @@
 // The lines that the day file program prints, put one after another into a lent buffer.
 use amounts::place_of;
 use market::Answer;
-use market::Position;
-use market::State;
 ghost use mathlib.Core.Path.{_≡_};
 ghost use mathlib.Core.List.{[], _∷_};
 ghost use Prim.Native.Nat.{_+_, _*_, _≤_, _<_};
 ghost use lib.ListN.{length};
 ghost use Rattle.market.specs.Limits.{columns as maxColumns, maxCurrencies, maxParticipants, maxSecurities};
 ghost use Rattle.market.specs.Limits.{numbersPerTrade};
-ghost use Rattle.market.specs.Day.{view};
 ghost use Rattle.printing.specs.Buffer.{Puts, lineRoom};
 ghost use Rattle.printing.specs.Lines.{answerLine, columnLines, decimal, flatLines, letterA};
-ghost use Rattle.printing.specs.Lines.{participantLines, positionLine, positionLines, printedLine};
+ghost use Rattle.printing.specs.Lines.{participantLines, positionLine, positionLinesOf, printedLine};
 
 const COMMA: u8 = b',';
 
@@ -104,12 +101,14 @@ fn put_position(
     letter: u8,
     participant: u64,
     column: u64,
-    x: Position,
+    free: u64,
+    blocked: u64,
 ) -> usize
     requires { ⌜ at + lineRoom 4 ≤ length (now out) ⌝ }
-    ensures { λ r. ⌜ Puts (now (out .entry)) at (positionLine letter participant column x) (now (out .exit)) r ⌝ }
+    ensures { λ r. ⌜ Puts (now (out .entry)) at
+        (positionLine letter participant column (record { free = free; blocked = blocked })) (now (out .exit)) r ⌝ }
 {
-    let numbers = [participant, column, x.free, x.blocked];
+    let numbers = [participant, column, free, blocked];
     put_line(out, at, letter, &numbers)
 }
 
@@ -120,17 +119,19 @@ fn put_columns(
     letter: u8,
     participant: u64,
     columns: u64,
-    positions: [Position; 256],
+    positions: &[u64; 512],
 ) -> usize
     requires { ⌜ (participant < maxParticipants) × (columns ≤ maxColumns) ⌝ }
     requires { ⌜ at + columns * lineRoom 4 ≤ length (now out) ⌝ }
-    ensures { λ r. ⌜ Puts (now (out .entry)) at (columnLines letter positions participant columns 0) (now (out .exit)) r ⌝ }
+    ensures { λ r. ⌜ Puts (now (out .entry)) at (columnLines letter (now (positions .entry)) participant columns 0) (now (out .exit)) r ⌝ }
 {
     let mut end = at;
     let mut column: u64 = 0;
     while column < columns {
-        let x = positions[place_of(participant, column)];
-        end = put_position(out, end, letter, participant, column, x);
+        let first = 2 * place_of(participant, column);
+        let free = positions[first];
+        let blocked = positions[first + 1];
+        end = put_position(out, end, letter, participant, column, free, blocked);
         column += 1;
     }
     end
@@ -142,11 +143,11 @@ fn put_participants(
     letter: u8,
     participants: u64,
     columns: u64,
-    positions: [Position; 256],
+    positions: &[u64; 512],
 ) -> usize
     requires { ⌜ (participants ≤ maxParticipants) × (columns ≤ maxColumns) ⌝ }
     requires { ⌜ at + participants * (columns * lineRoom 4) ≤ length (now out) ⌝ }
-    ensures { λ r. ⌜ Puts (now (out .entry)) at (participantLines letter positions columns participants 0) (now (out .exit)) r ⌝ }
+    ensures { λ r. ⌜ Puts (now (out .entry)) at (participantLines letter (now (positions .entry)) columns participants 0) (now (out .exit)) r ⌝ }
 {
     let mut end = at;
     let mut participant: u64 = 0;
@@ -157,14 +158,21 @@ fn put_participants(
     end
 }
 
-pub fn put_positions(out: &mut [u8], at: usize, s: State) -> usize
-    requires { ⌜ (s .participants ≤ maxParticipants) × (s .currencies ≤ maxCurrencies)
-        × (s .securities ≤ maxSecurities) ⌝ }
+pub fn put_positions<'a>(
+    out: &mut [u8],
+    at: usize,
+    participants: u64,
+    currencies: u64,
+    securities: u64,
+    money: &'a [u64; 512],
+    pieces: &'a [u64; 512],
+) -> usize
+    requires { ⌜ (participants ≤ maxParticipants) × (currencies ≤ maxCurrencies) × (securities ≤ maxSecurities) ⌝ }
     requires { ⌜ at + maxParticipants * (maxCurrencies + maxSecurities) * lineRoom 4 ≤ length (now out) ⌝ }
-    ensures { λ r. ⌜ Puts (now (out .entry)) at (positionLines (view s)) (now (out .exit)) r ⌝ }
+    ensures { λ r. ⌜ Puts (now (out .entry)) at
+        (positionLinesOf participants currencies securities (now (money .entry)) (now (pieces .entry)))
+        (now (out .exit)) r ⌝ }
 {
-    let money = s.money;
-    let pieces = s.pieces;
-    let end = put_participants(out, at, LETTER_M, s.participants, s.currencies, money);
-    put_participants(out, end, LETTER_Q, s.participants, s.securities, pieces)
+    let end = put_participants(out, at, LETTER_M, participants, currencies, money);
+    put_participants(out, end, LETTER_Q, participants, securities, pieces)
 }

@@ -6,28 +6,34 @@ use mathlib.Core.List.{List}
 use lib.ListN.{drop, drop-of-length-le, length}
 use lib.Seq.{drop-length}
 use types.Run.{miss}
-use Rattle.lines.specs.declared.Command.{Command}
-use Rattle.lines.specs.declared.Command.the-variants as command
+use Rattle.market.specs.declared.Call.{Call}
+use Rattle.market.specs.declared.Call.the-variants as call
+use Rattle.lines.specs.declared.Line.{Line}
+use Rattle.lines.specs.declared.Line.the-variants as line
 use Rattle.reading.specs.declared.Reading.{Reading}
-use Rattle.reading.specs.Commands.{Reads, ReadsLine, Yields, single, yield, yieldBy}
-use Rattle.reading.proofs.Tags.{Other, groupTag, others}
+use Rattle.reading.specs.Commands.{Reads, ReadsLine, Yields, groupOf, noGroup, single, yield, yieldBy}
+use Rattle.reading.proofs.Tags.{OtherCall, OtherLine, callTag, groupTag, otherCalls, otherLines}
 
--- a line that is no group's takes no other lines
-pub no-group : (c : Command) (t : List ℕ) → Other groupTag c → yieldBy c t ≡ single c t
-no-group (command.Heading a b d) t h = refl
-no-group (command.Security a b d) t h = refl
-no-group (command.IncreaseMoney a b d) t h = refl
-no-group (command.DecreaseMoney a b d) t h = refl
-no-group (command.IncreasePieces a b d) t h = refl
-no-group (command.DecreasePieces a b d) t h = refl
-no-group (command.Order a m k) t h = refl
-no-group (command.Cancel a b) t h = refl
-no-group (command.Group a b) t h = absurd (miss (others groupTag) groupTag tt h)
-no-group (command.Member m) t h = refl
-no-group command.StartClosing t h = refl
-no-group (command.ClosingOrder a b d e) t h = refl
-no-group command.EndSession t h = refl
-no-group command.Malformed t h = refl
+other-call : (c : Call) → OtherCall groupTag c → groupOf c ≡ noGroup
+other-call (call.Reserve m) h = refl
+other-call (call.Order p m k) h = refl
+other-call (call.Cancel p code) h = refl
+other-call (call.Group p n) h = absurd (miss (otherCalls groupTag) groupTag tt h)
+other-call call.StartClosing h = refl
+other-call (call.ClosingOrder p side s lots) h = refl
+other-call call.EndSession h = refl
+
+-- a line that is no group's takes no other lines; `held` is what it says where the code's ways meet
+pub no-group : (says held : Line) (c : Call) (t : List ℕ) → says ≡ line.Call c → held ≡ line.Call c → OtherCall groupTag c
+    → yieldBy says t ≡ single held t
+no-group says held c t e k h = rw (e, k, other-call c h)
+
+pub no-call : (says held : Line) (t : List ℕ) → held ≡ says → OtherLine callTag says → yieldBy says t ≡ single held t
+no-call (line.Call c) held t e h = absurd (miss (otherLines callTag) callTag tt h)
+no-call (line.Heading a b c) held t e h = rw e
+no-call (line.Security a b c) held t e h = rw e
+no-call (line.Member m) held t e h = rw e
+no-call line.Malformed held t e h = rw e
 
 -- reading starts at `from`: at `at`, or at the text's end where `at` is not inside
 pub record Starts (text : List ℕ) (at from : ℕ) : Type 0 where
@@ -46,20 +52,20 @@ starts-past text at from h e = record {
 }
 
 module _ (text : List ℕ) (at from : ℕ) (start : Starts text at from)
-    (c : Command) (next : ℕ) (line : ReadsLine text from c next) where
-  first : yield (drop at text) ≡ yieldBy c (drop next text)
+    (says : Line) (next : ℕ) (read : ReadsLine text from says next) where
+  first : yield (drop at text) ≡ yieldBy says (drop next text)
   unfolding yield
-  first = rw (line .rest, line .command, start .rest)
+  first = rw (read .rest, read .said, start .rest)
 
-  pub reads : (r : Reading) → Yields text next (yieldBy c (drop next text)) r → Reads text at r
+  pub reads : (r : Reading) → Yields text next (yieldBy says (drop next text)) r → Reads text at r
   reads r y =
       let z : Yields text next (yield (drop at text)) r = rw first y in
       record {
-        command = z .command;
+        says = z .says;
         members = z .members;
         lines = z .lines;
         rest = z .rest;
         forward = λ some.
             let same = start .here some in
-            (omega (arith, line .forward (omega arith)), z .inside);
+            (omega (arith, read .forward (omega arith)), z .inside);
       }

@@ -7,23 +7,25 @@ use mathlib.Core.List.{List}
 use mathlib.Core.Bool.{true, false}
 use lib.ListN.{drop, length}
 use borrow.Author.Tests.{le-leb, lt-leb}
+use Rattle.market.specs.declared.Call.the-variants as call
 use Rattle.market.specs.Limits.{maxMembers, minMembers}
 use Rattle.market.specs.Tests.{_and_}
-use Rattle.lines.specs.declared.Command.{Command}
-use Rattle.lines.specs.declared.Command.the-variants as command
+use Rattle.lines.specs.declared.Line.{Line}
+use Rattle.lines.specs.declared.Line.the-variants as line
 use Rattle.reading.specs.declared.Members as code
 use Rattle.reading.specs.declared.Reading.{Reading}
-use Rattle.reading.specs.Commands.{ReadsMembers, Yield, Yields, noMembers, single, yieldBy}
+use Rattle.market.specs.Calls.{noTickets}
+use Rattle.reading.specs.Commands.{ReadsMembers, Yield, Yields, single, yieldBy}
 
 -- a reading of one line, which ends before `next`
-abbrev pub oneLine : Command → ℕ → Reading
-oneLine c next = record { command = c; members = noMembers; lines = 1; next = next }
+abbrev pub oneLine : Line → ℕ → Reading
+oneLine says next = record { says = says; members = noTickets; lines = 1; next = next }
 
 module _ (text : List ℕ) (next : ℕ) (inside : next ≤ length text) where
-  pub single-yields : (c : Command) (y : Yield) → y ≡ single c (drop next text)
-      → (r : Reading) → r ≡ oneLine c next → Yields text next y r
-  single-yields c y e r h = rw (e, h) (record {
-    command = refl;
+  pub single-yields : (says : Line) (y : Yield) → y ≡ single says (drop next text)
+      → (r : Reading) → r ≡ oneLine says next → Yields text next y r
+  single-yields says y e r h = rw (e, h) (record {
+    says = refl;
     members = refl;
     lines = refl;
     rest = refl;
@@ -32,31 +34,34 @@ module _ (text : List ℕ) (next : ℕ) (inside : next ≤ length text) where
   })
 
   module _ (p n : ℕ) where
+    abbrev first : Line
+    first = line.Call (call.Group p n)
+
     abbrev group : Yield
-    group = yieldBy (command.Group p n) (drop next text)
+    group = yieldBy first (drop next text)
 
-    pub group-below : n < minMembers → (r : Reading) → r ≡ oneLine (command.Group p n) next → Yields text next group r
+    pub group-below : n < minMembers → (r : Reading) → r ≡ oneLine first next → Yields text next group r
     unfolding _and_
-    group-below h = single-yields (command.Group p n) group (rw (lt-leb minMembers n))
+    group-below h = single-yields first group (rw (lt-leb minMembers n))
 
-    pub group-above : maxMembers < n → (r : Reading) → r ≡ oneLine (command.Group p n) next → Yields text next group r
+    pub group-above : maxMembers < n → (r : Reading) → r ≡ oneLine first next → Yields text next group r
     unfolding _and_
     group-above h =
         let low : minMembers ≤ n = omega arith in
-        single-yields (command.Group p n) group (rw (le-leb minMembers n, lt-leb n maxMembers))
+        single-yields first group (rw (le-leb minMembers n, lt-leb n maxMembers))
 
     module _ (low : minMembers ≤ n) (high : n ≤ maxMembers) (m : code.Members) (reads : ReadsMembers text next n m) where
-      pub group-missing : m .good ≡ false → (r : Reading) → r ≡ oneLine command.Malformed next
+      pub group-missing : m .good ≡ false → (r : Reading) → r ≡ oneLine line.Malformed next
           → Yields text next group r
       unfolding _and_
       group-missing h =
-          single-yields command.Malformed group (rw (le-leb minMembers n, le-leb n maxMembers, ← (reads .members), h))
+          single-yields line.Malformed group (rw (le-leb minMembers n, le-leb n maxMembers, ← (reads .members), h))
 
       pub group-taken : m .good ≡ true
-          → Yields text next group (record { command = command.Group p n; members = m .list; lines = n + 1; next = m .next })
+          → Yields text next group (record { says = first; members = m .list; lines = n + 1; next = m .next })
       unfolding _and_
       group-taken h = rw (le-leb minMembers n, le-leb n maxMembers, ← (reads .members), h) (record {
-        command = refl;
+        says = refl;
         members = refl;
         lines = add-one n;
         rest = refl;

@@ -5,16 +5,19 @@ use mathlib.Core.Path.{_≡_, refl}
 use mathlib.Core.List.{List, [], _∷_}
 use mathlib.Core.Bool.{Bool, true, false, cond}
 use lib.ListN.{length, set}
-use Rattle.market.specs.declared.Member.{Member}
+use Rattle.market.specs.declared.Call.{Call}
+use Rattle.market.specs.declared.Ticket.{Ticket}
 use Rattle.market.specs.Limits.{maxMembers, minMembers}
 use Rattle.market.specs.Tests.{_=?_, within}
 use Rattle.market.proofs.Logic.{within-high}
-use Rattle.lines.specs.declared.Command.{Command}
-use Rattle.lines.specs.declared.Command.the-variants as command
+use Rattle.lines.specs.declared.Line.{Line}
+use Rattle.lines.specs.declared.Line.the-variants as line
 use Rattle.lines.specs.Line.{lineSays}
 use Rattle.lines.specs.Text.{startingAt}
-use Rattle.reading.specs.Commands.{Members, Yield, afterLine, behind, firstLine, groupBy, groupIn, lineEnd}
-use Rattle.reading.specs.Commands.{memberBy, membersFrom, missing, noMembers, taken, yield, yieldBy}
+use Rattle.reading.specs.Commands.{Group, Members, Yield, afterLine, behind, callBy, firstLine, groupBy, groupIn}
+use Rattle.market.specs.Calls.{noTickets}
+use Rattle.reading.specs.Commands.{groupOf, lineEnd, memberBy, membersFrom, missing, noGroup, ofGroup}
+use Rattle.reading.specs.Commands.{taken, yield, yieldBy}
 
 behind-short : (t : List ℕ) → length (behind t) ≤ length t
 unfolding behind
@@ -47,24 +50,15 @@ abbrev leftOf : Members → List ℕ
 leftOf missing = []
 leftOf (taken ms t) = t
 
-member-short : (k : ℕ) (c : Command) (next : Member → Members) → ((m : Member) → length (leftOf (next m)) ≤ k)
-    → length (leftOf (memberBy c next)) ≤ k
-member-short k (command.Heading a b d) next h = omega arith
-member-short k (command.Security a b d) next h = omega arith
-member-short k (command.IncreaseMoney a b d) next h = omega arith
-member-short k (command.DecreaseMoney a b d) next h = omega arith
-member-short k (command.IncreasePieces a b d) next h = omega arith
-member-short k (command.DecreasePieces a b d) next h = omega arith
-member-short k (command.Order a m f) next h = omega arith
-member-short k (command.Cancel a b) next h = omega arith
-member-short k (command.Group a b) next h = omega arith
-member-short k (command.Member m) next h = h m
-member-short k command.StartClosing next h = omega arith
-member-short k (command.ClosingOrder a b d e) next h = omega arith
-member-short k command.EndSession next h = omega arith
-member-short k command.Malformed next h = omega arith
+member-short : (k : ℕ) (says : Line) (next : Ticket → Members) → ((m : Ticket) → length (leftOf (next m)) ≤ k)
+    → length (leftOf (memberBy says next)) ≤ k
+member-short k (line.Call c) next h = omega arith
+member-short k (line.Heading a b c) next h = omega arith
+member-short k (line.Security a b c) next h = omega arith
+member-short k (line.Member m) next h = h m
+member-short k line.Malformed next h = omega arith
 
-members-short : (n i : ℕ) (ms : List Member) (t : List ℕ) → length (leftOf (membersFrom n i ms t)) ≤ length t
+members-short : (n i : ℕ) (ms : List Ticket) (t : List ℕ) → length (leftOf (membersFrom n i ms t)) ≤ length t
 unfolding membersFrom
 members-short zero i ms t = omega arith
 members-short (suc n) i ms [] = omega arith
@@ -87,25 +81,20 @@ group-short p n t = go (within minMembers maxMembers n) refl
     with-members most (taken ms rest) h = record { rest = h; lines = omega (arith, most) }
 
     go : (k : Bool) → within minMembers maxMembers n ≡ k → Short t (groupIn k p n t)
-    go true e = with-members (within-high minMembers maxMembers n e) (membersFrom n 0 noMembers t)
-        (members-short n 0 noMembers t)
+    go true e = with-members (within-high minMembers maxMembers n e) (membersFrom n 0 noTickets t)
+        (members-short n 0 noTickets t)
     go false e = record { rest = omega arith; lines = omega arith }
 
-short : (c : Command) (t : List ℕ) → Short t (yieldBy c t)
-short (command.Heading a b d) t = record { rest = omega arith; lines = omega arith }
-short (command.Security a b d) t = record { rest = omega arith; lines = omega arith }
-short (command.IncreaseMoney a b d) t = record { rest = omega arith; lines = omega arith }
-short (command.DecreaseMoney a b d) t = record { rest = omega arith; lines = omega arith }
-short (command.IncreasePieces a b d) t = record { rest = omega arith; lines = omega arith }
-short (command.DecreasePieces a b d) t = record { rest = omega arith; lines = omega arith }
-short (command.Order a m k) t = record { rest = omega arith; lines = omega arith }
-short (command.Cancel a b) t = record { rest = omega arith; lines = omega arith }
-short (command.Group a b) t = group-short a b t
-short (command.Member m) t = record { rest = omega arith; lines = omega arith }
-short command.StartClosing t = record { rest = omega arith; lines = omega arith }
-short (command.ClosingOrder a b d e) t = record { rest = omega arith; lines = omega arith }
-short command.EndSession t = record { rest = omega arith; lines = omega arith }
-short command.Malformed t = record { rest = omega arith; lines = omega arith }
+call-short : (c : Call) (g : Group) (t : List ℕ) → Short t (callBy c g t)
+call-short c (ofGroup p n) t = group-short p n t
+call-short c noGroup t = record { rest = omega arith; lines = omega arith }
+
+short : (says : Line) (t : List ℕ) → Short t (yieldBy says t)
+short (line.Call c) t = call-short c (groupOf c) t
+short (line.Heading a b c) t = record { rest = omega arith; lines = omega arith }
+short (line.Security a b c) t = record { rest = omega arith; lines = omega arith }
+short (line.Member m) t = record { rest = omega arith; lines = omega arith }
+short line.Malformed t = record { rest = omega arith; lines = omega arith }
 
 pub yield-shorter : (x : ℕ) (t : List ℕ) → length ((yield (x ∷ t)) .rest) ≤ length t
 unfolding yield

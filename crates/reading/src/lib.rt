@@ -1,48 +1,51 @@
 // A reader of a day file: it yields one command after another.
-use lines::Command;
+use lines::Line;
 use lines::line_says;
+use market::Call;
 use market::MAX_MEMBERS;
 use market::MIN_MEMBERS;
-use market::Member;
 use market::Side;
+use market::Ticket;
 ghost use mathlib.Core.Path.{_≡_};
 ghost use Prim.Native.Nat.{_≤_};
 ghost use lib.ListN.{drop, length};
+ghost use Rattle.market.specs.declared.Call.the-variants as call;
 ghost use Rattle.market.specs.Limits.{maxMembers};
-ghost use Rattle.lines.specs.declared.Command.the-variants as command;
-ghost use Rattle.reading.specs.Commands.{Reads, ReadsLine, ReadsMembers, Yields, noMembers, yieldBy};
+ghost use Rattle.lines.specs.declared.Line.the-variants as line;
+ghost use Rattle.market.specs.Calls.{noTickets};
+ghost use Rattle.reading.specs.Commands.{Reads, ReadsLine, ReadsMembers, Yields, yieldBy};
 
 const LINE_END: u8 = b'\n';
 
-// A command, the members of a group, how many lines it took, and where the text goes on after them.
+// What a first line says, the members of a group, how many lines were taken, and where the text goes on after them.
 pub struct Reading {
-    pub command: Command,
-    pub members: [Member; 8],
+    pub says: Line,
+    pub members: [Ticket; 8],
     pub lines: u64,
     pub next: usize,
 }
 
 // A line, and where the text goes on after it.
-pub struct Line {
-    pub command: Command,
+pub struct LineAt {
+    pub says: Line,
     pub next: usize,
 }
 
 // A group's members in their places, where all their lines are there.
 pub struct Members {
     pub good: bool,
-    pub list: [Member; 8],
+    pub list: [Ticket; 8],
     pub next: usize,
 }
 
-fn line_at(text: &[u8], at: usize) -> Line
+fn line_at(text: &[u8], at: usize) -> LineAt
     requires { ⌜ at ≤ length (now text) ⌝ }
-    ensures { λ r. ⌜ ReadsLine (now (text .entry)) at (r .command) (r .next) ⌝ }
+    ensures { λ r. ⌜ ReadsLine (now (text .entry)) at (r .says) (r .next) ⌝ }
 {
     let end = bytes::scan::find(text, at, text.len(), LINE_END);
-    let command = line_says(&text[at..end]);
+    let says = line_says(&text[at..end]);
     let next = if end < text.len() { end + 1 } else { end };
-    Line { command, next }
+    LineAt { says, next }
 }
 
 // The lines of n members.
@@ -51,7 +54,7 @@ fn members_at(text: &[u8], from: usize, n: u64) -> Members
     requires { ⌜ n ≤ maxMembers ⌝ }
     ensures { λ r. ⌜ ReadsMembers (now (text .entry)) from n r ⌝ }
 {
-    let blank = Member {
+    let blank = Ticket {
         side: Side::Buy,
         security: 0,
         price: 0,
@@ -69,8 +72,8 @@ fn members_at(text: &[u8], from: usize, n: u64) -> Members
             };
         }
         let line = line_at(text, at);
-        let command = line.command;
-        let Command::Member(member) = command else {
+        let says = line.says;
+        let Line::Member(member) = says else {
             return Members {
                 good: false,
                 list,
@@ -89,17 +92,17 @@ fn members_at(text: &[u8], from: usize, n: u64) -> Members
 }
 
 // A command of one line.
-fn single(command: Command, next: usize) -> Reading
-    ensures { λ r. ⌜ r ≡ record { command = command; members = noMembers; lines = 1; next = next } ⌝ }
+fn single(says: Line, next: usize) -> Reading
+    ensures { λ r. ⌜ r ≡ record { says = says; members = noTickets; lines = 1; next = next } ⌝ }
 {
-    let blank = Member {
+    let blank = Ticket {
         side: Side::Buy,
         security: 0,
         price: 0,
         lots: 0,
     };
     Reading {
-        command,
+        says,
         members: [blank; 8],
         lines: 1,
         next,
@@ -109,21 +112,21 @@ fn single(command: Command, next: usize) -> Reading
 // A group whose first line ends at `next`, with its members' lines.
 fn group_at(text: &[u8], next: usize, participant: u64, n: u64) -> Reading
     requires { ⌜ next ≤ length (now text) ⌝ }
-    ensures { λ r. ⌜ Yields (now (text .entry)) next (yieldBy (command.Group participant n) (drop next (now (text .entry)))) r ⌝ }
+    ensures { λ r. ⌜ Yields (now (text .entry)) next (yieldBy (line.Call (call.Group participant n)) (drop next (now (text .entry)))) r ⌝ }
 {
     if n < MIN_MEMBERS {
-        return single(Command::Group(participant, n), next);
+        return single(Line::Call(Call::Group(participant, n)), next);
     }
     if MAX_MEMBERS < n {
-        return single(Command::Group(participant, n), next);
+        return single(Line::Call(Call::Group(participant, n)), next);
     }
     let members = members_at(text, next, n);
     if !members.good {
-        return single(Command::Malformed, next);
+        return single(Line::Malformed, next);
     }
     let list = members.list;
     Reading {
-        command: Command::Group(participant, n),
+        says: Line::Call(Call::Group(participant, n)),
         members: list,
         lines: n + 1,
         next: members.next,
@@ -136,11 +139,13 @@ fn reading_at(text: &[u8], at: usize) -> Reading
 {
     let from = if at < text.len() { at } else { text.len() };
     let line = line_at(text, from);
-    let command = line.command;
-    if let Command::Group(participant, n) = command {
-        return group_at(text, line.next, participant, n);
+    let says = line.says;
+    if let Line::Call(call) = says {
+        if let Call::Group(participant, n) = call {
+            return group_at(text, line.next, participant, n);
+        }
     }
-    single(command, line.next)
+    single(says, line.next)
 }
 
 // A line reader over a lent text.

@@ -7,13 +7,15 @@ use engine::opening;
 use market::Kind;
 use market::Order;
 use market::Phase;
-use market::Position;
 use market::Security;
 use market::Side;
 use market::State;
 use market::Turnover;
-use market::with_phase;
+use market::book_of;
+use market::state_of;
 use show::after;
+use show::with_money;
+use show::with_pieces;
 
 // Lot 10, step 5, currency 0 in every place.
 fn table() -> [Security; 16] {
@@ -92,7 +94,7 @@ fn money_limits() {
         decrease_money(s, 0, 0, 1000000000000000),
     );
     after(b"one more: 10", decrease_money(s, 0, 0, 1));
-    show::position(b"nothing is left", s.money[0]);
+    show::money(b"nothing is left", s, 0);
 }
 
 fn piece_limits() {
@@ -104,7 +106,7 @@ fn piece_limits() {
     let s = after(b"decrease of a part", decrease_pieces(s, 1, 1, 1));
     let s = after(b"and one in again", increase_pieces(s, 0, 1, 1));
     after(b"more than is free: 10", decrease_pieces(s, 0, 1, 2));
-    show::position(b"free pieces", s.pieces[17]);
+    show::pieces(b"free pieces", s, 17);
 }
 
 fn money_refusals() {
@@ -212,12 +214,8 @@ fn order(code: u64, participant: u64, security: u64, lots: u64, kind: Kind) -> O
 
 // 4 codes given; participant 1 sells 10 lots of security 0 under code 3, its 100 pieces blocked.
 fn waiting(o: Order) -> State {
-    let mut s = day();
+    let mut s = with_pieces(day(), 16, 0, 100);
     s.codes = 4;
-    s.pieces[16] = Position {
-        free: 0,
-        blocked: 100,
-    };
     s.orders[0] = o;
     s.count = 1;
     s
@@ -273,7 +271,9 @@ fn kind_cases() {
 }
 
 fn closing(s: State) -> State {
-    with_phase(s, Phase::Closing)
+    let money = s.money;
+    let pieces = s.pieces;
+    state_of(s, Phase::Closing, money, pieces, book_of(s))
 }
 
 fn list_cases() {
@@ -296,56 +296,35 @@ fn list_cases() {
 }
 
 fn blocked_cases() {
-    let mut s = waiting(order(3, 1, 0, 10, Kind::Kept(95)));
-    s.pieces[16] = Position {
-        free: 0,
-        blocked: 99,
-    };
-    asked(b"a piece too few blocked: 1", s);
-    let mut s = day();
-    s.pieces[1] = Position {
-        free: 0,
-        blocked: 1,
-    };
-    asked(b"pieces blocked for no order: 1", s);
-    let mut s = day();
-    s.money[16] = Position {
-        free: 0,
-        blocked: 1,
-    };
-    asked(b"money blocked for no order: 1", s);
-    let mut s = day();
-    s.money[17] = Position {
-        free: 1000000000000001,
-        blocked: 0,
-    };
-    asked(b"a total above its limit: 1", s);
-    s.money[17] = Position {
-        free: 18446744073709551615,
-        blocked: 18446744073709551615,
-    };
-    asked(b"the largest amounts: 1", s);
+    let s = waiting(order(3, 1, 0, 10, Kind::Kept(95)));
+    asked(b"a piece too few blocked: 1", with_pieces(s, 16, 0, 99));
+    asked(
+        b"pieces blocked for no order: 1",
+        with_pieces(day(), 1, 0, 1),
+    );
+    asked(
+        b"money blocked for no order: 1",
+        with_money(day(), 16, 0, 1),
+    );
+    asked(
+        b"a total above its limit: 1",
+        with_money(day(), 17, 1000000000000001, 0),
+    );
+    asked(
+        b"the largest amounts: 1",
+        with_money(day(), 17, 18446744073709551615, 18446744073709551615),
+    );
 }
 
 // What lies past the counts is not read.
 fn unread() {
-    let mut s = day();
+    let s = with_money(day(), 2, 18446744073709551615, 7);
+    let s = with_money(s, 32, 18446744073709551615, 7);
+    let mut s = with_pieces(s, 2, 18446744073709551615, 7);
     s.table[2] = Security {
         currency: 99,
         lot: 0,
         step: 0,
-    };
-    s.money[2] = Position {
-        free: 18446744073709551615,
-        blocked: 7,
-    };
-    s.money[32] = Position {
-        free: 18446744073709551615,
-        blocked: 7,
-    };
-    s.pieces[2] = Position {
-        free: 18446744073709551615,
-        blocked: 7,
     };
     s.turnover[2] = Turnover {
         pieces: 18446744073709551615,
@@ -356,7 +335,7 @@ fn unread() {
         b"anything past the counts, sound",
         increase_money(s, 0, 0, 1),
     );
-    show::position(b"an unknown currency's position stays", s.money[2]);
+    show::money(b"an unknown currency's position stays", s, 2);
 }
 
 fn main() {

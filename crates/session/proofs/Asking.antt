@@ -1,119 +1,139 @@
--- What the questions of a closing order let it do, and calls that are refused.
-use Prim.Native.Nat.{ℕ, zero, suc, _≤_, _<_}
+-- The questions of a closing order in the parts in which code asks them, and the call, on the parts of a sound day.
+use Prim.Native.Nat.{ℕ, _≤_, _<_}
+use native.Mathlib.Nat.{div-le-of-le-mul}
 use native.Mathlib.Omega.{arith}
-use mathlib.Core.Path.{_≡_, refl, ap, sym, _∙_}
-use mathlib.Core.List.{List, [], _∷_, _++_}
-use mathlib.Core.Bool.{true}
-use lib.ListN.{length}
+use mathlib.Core.Path.{_≡_, refl, sym, _∙_, subst}
+use mathlib.Core.List.{List, [], _++_}
 use borrow.Author.Tests.{leb-true, ltb-true}
 use Rattle.market.specs.declared.Answer.the-variants.{Done, Refused}
-use Rattle.market.specs.declared.Outcome.{Outcome}
 use Rattle.market.specs.declared.Order.{Order}
+use Rattle.market.specs.declared.OrderBook.{OrderBook}
+use Rattle.market.specs.declared.Phase.{Phase}
+use Rattle.market.specs.declared.Phase.the-variants.{Closing}
+use Rattle.market.specs.declared.Rules.{Rules}
+use Rattle.market.specs.declared.Security.{Security}
 use Rattle.market.specs.declared.Side.{Side}
-use Rattle.market.specs.declared.State.{State}
-use Rattle.market.specs.Limits.{maxCodes, maxLots, maxWaiting}
-use Rattle.market.specs.Tests.{known}
-use Rattle.market.specs.Day.{Day, Rules, turnoverAt, view, withWaiting}
-use Rattle.market.specs.Codes.{codeLeft}
-use Rattle.market.specs.Positions.{blockFor}
-use Rattle.market.specs.Sound.{hasTraded, isClosing, lotsSound, sound}
-use Rattle.market.specs.Calls.{Call, closingOf, closingOrder}
-use Rattle.market.specs.Questions.{Question, ask, closingQuestions, covered, firstNo, hasRoom, questions}
-use Rattle.market.specs.Entry.{admitted, placed}
+use Rattle.market.specs.declared.Turnover.{Turnover}
+use Rattle.market.specs.Limits.{maxCodes, maxLots, maxPrice, maxSecurities}
+use Rattle.market.specs.Day.{Day, row, turnoverAt}
+use Rattle.market.specs.View.{dayOf}
+use Rattle.market.specs.Needs.{closingPrice}
+use Rattle.market.specs.Calls.{closingOrder}
+use Rattle.market.specs.Questions.{Question, closingQuestions, firstNo, questions}
+use Rattle.market.specs.Entry.{placed}
 use Rattle.market.specs.Step.{effect}
-use Rattle.market.specs.Contract.{Does}
+use Rattle.market.specs.Parts.{Carries, Ready}
+use Rattle.market.proofs.Logic.{within-high}
+use Rattle.market.proofs.Known.{closing-phase}
+use Rattle.market.proofs.Questions.{AllYes, all-yes, hides, passes}
+use Rattle.market.proofs.Parts.{carries-accept, carries-refuse}
 use Rattle.market.proofs.View.{first-length}
-use Rattle.market.proofs.Logic.{both, within-high, within-low}
-use Rattle.market.proofs.Known.{OrderOk}
-use Rattle.market.proofs.Questions.{all-yes, yes}
-use Rattle.market.proofs.Step.{does-accept, does-refuse}
-use Rattle.conservation.specs.Book.{Book}
-use Rattle.conservation.proofs.Good.{Good}
-use Rattle.waiting.specs.Claims.{Admissible, Reckonable}
-use Rattle.waiting.proofs.Allowed.{good-admits, good-reckons}
+use Rattle.invariant.specs.Standing.{Standing}
+use Rattle.invariant.proofs.Sound.{ready-standing}
+use Rattle.waiting.specs.Claims.{Reckonable}
+use Rattle.waiting.proofs.Days.{covered-is, reckons}
+use Rattle.session.specs.Appending.{Admits, AppendedAs, Appendable, Appends, closingWith, earlyClosing}
+use Rattle.session.specs.Appending.{laterClosing}
 
--- a call whose first "no" is this number, and which hands it back with the state
-pub does-refused : (s : State) (l : List ℕ) (c : Call) (number : ℕ) (r : Outcome)
-    → firstNo (questions (view s) (length l) c) ≡ number → (number ≡ 0 → ⊥)
-    → r ≡ record { answer = Refused number 0; state = s } → Does s l c r l
-does-refused s l c zero r first some e = absurd (some refl)
-does-refused s l c (suc n) r first some e = rw e (does-refuse s l c n first)
+module _ {r : Rules} {x : Phase} {m k : List ℕ} {b : OrderBook} (g : Ready r x m k b) (p : ℕ) (side : Side) (s n : ℕ)
+  where
+    abbrev d : Day
+    d = dayOf r x m k b
 
--- questions 4 to 7 of a closing order are answered "yes"
-pub record FirstYes (d : Day) (p s n : ℕ) : Type 0 where
-  pub participant : known p (d .rules .participants) ≡ true
-  pub security : known s (d .rules .securities) ≡ true
-  pub phase : isClosing (d .phase) ≡ true
-  pub lots : lotsSound n ≡ true
+    abbrev l : Security
+    l = row r s
 
-module _ (d : Day) (p : ℕ) (x : Side) (s n : ℕ) where
-  -- the questions from 11 on
-  abbrev pub laterQuestions : List Question
-  laterQuestions =
-      ask 11 (hasTraded (turnoverAt (d .turnover) s)) ∷
-      ask 12 (hasRoom d) ∷
-      ask 13 (codeLeft d p) ∷
-      ask 14 (covered d (closingOf d p x s n)) ∷ []
+    abbrev t : Turnover
+    t = turnoverAt (b .turnover) s
 
-  pub later-no : FirstYes d p s n → firstNo (closingQuestions d p x s n) ≡ firstNo laterQuestions
-  unfolding closingQuestions
-  later-no f = rw (f .participant, f .security, f .phase, f .lots)
+    abbrev o : Order
+    o = closingWith (b .codes) p side s n
 
-  order-ok : FirstYes d p s n → OrderOk (d .rules) (closingOf d p x s n)
-  order-ok f = record {
-    participant = ltb-true p (d .rules .participants) (f .participant);
-    security = ltb-true s (d .rules .securities) (f .security);
-    lots = within-low 1 maxLots n (f .lots);
-    top = within-high 1 maxLots n (f .lots);
-  }
+    abbrev early : List Question
+    early = earlyClosing (r .participants) (r .securities) x p s n
 
-  module _ {U : Type 0} {r : Rules} {b : Book} (g : Good U r b d) where
-    -- question 14 can be asked where those before it are answered "yes"
-    pub closing-reckons : FirstYes d p s n → hasTraded (turnoverAt (d .turnover) s) ≡ true
-        → Reckonable d (closingOf d p x s n)
-    closing-reckons f traded = good-reckons g (closingOf d p x s n) (order-ok f) (both (f .phase) traded)
+    abbrev later : Order → List Question
+    later y = laterClosing l t (b .count) (b .codes) y m k
 
-    -- and the order is admitted where all are
-    pub closing-admits : firstNo (closingQuestions d p x s n) ≡ 0 → Admissible d (closingOf d p x s n)
-    unfolding closingQuestions
-    closing-admits e =
-        let qs = closingQuestions d p x s n in
-        let y = all-yes qs tt e in
-        let f : FirstYes d p s n =
-        record { participant = yes 4 qs y; security = yes 5 qs y; phase = yes 6 qs y; lots = yes 7 qs y } in
-        good-admits g (closingOf d p x s n) (order-ok f) (both (f .phase) (yes 11 qs y)) (yes 14 qs y) (yes 13 qs y)
+    standing : Standing d
+    standing = ready-standing g
 
-  pub closing-room : firstNo (closingQuestions d p x s n) ≡ 0 → length (d .waiting) < maxWaiting
-  unfolding closingQuestions
-  closing-room e =
-      let qs = closingQuestions d p x s n in
-      ltb-true (length (d .waiting)) maxWaiting (yes 12 qs (all-yes qs tt e))
+    in-parts : firstNo (questions d 0 (closingOrder p side s n)) ≡ firstNo (early ++ later o)
+    unfolding questions closingQuestions
+    in-parts = rw (first-length (b .count) (b .orders), ← covered-is d l o refl)
 
-pub codes-fit : {U : Type 0} {r : Rules} {b : Book} {d : Day} → Good U r b d → d .codes ≤ maxCodes
-codes-fit {U} {r} {b} {d} g = leb-true (d .codes) maxCodes (g .limit)
+    pub refuse-early : (number : ℕ) → 0 < number → number ≡ firstNo early
+        → Carries r x m k b [] (closingOrder p side s n) m k []
+        (record { answer = Refused number 0; phase = x; book = b })
+    refuse-early number h e =
+        carries-refuse r x m k b [] (closingOrder p side s n) (g .sound) number h
+        (in-parts ∙ hides early (later o) (omega arith) ∙ sym e)
 
--- an admitted order finds as many orders waiting as before
-pub admitted-room : (s s′ : State) (o : Order) → view s′ ≡ admitted (view s) o
-    → length ((view s) .waiting) < maxWaiting → s′ .count < maxWaiting
-unfolding admitted blockFor
-admitted-room s s′ o e h =
-    omega (arith, ap (λ (d : Day). length (d .waiting)) e, first-length (s′ .count) (s′ .orders))
+    pub given : b .codes ≤ maxCodes
+    given = leb-true (b .codes) maxCodes (standing .limit)
 
--- the calls
-module _ (s : State) (p : ℕ) (x : Side) (k n : ℕ) (sound-day : sound (view s) ≡ true) where
-  pub closing-refused : (number : ℕ) (r : Outcome) → number ≡ firstNo (closingQuestions (view s) p x k n)
-      → (number ≡ 0 → ⊥) → r ≡ record { answer = Refused number 0; state = s } → Does s [] (closingOrder p x k n) r []
-  unfolding questions
-  closing-refused number r first some e = does-refused s [] (closingOrder p x k n) number r (rw sound-day (sym first)) some e
+    module _ (none : firstNo early ≡ 0) where
+      yeses : AllYes early
+      yeses = all-yes early tt none
 
-  pub closing-accepted : (q s′ : State) (o : Order) → firstNo (closingQuestions (view s) p x k n) ≡ 0
-      → o ≡ closingOf (view s) p x k n → view q ≡ admitted (view s) o
-      → view s′ ≡ withWaiting (view q) ((view q) .waiting ++ (o ∷ []))
-      → Does s [] (closingOrder p x k n) (record { answer = Done (o .code) 0 n 0; state = s′ }) []
-  unfolding questions effect placed admitted blockFor
-  closing-accepted q s′ o all new blocked last =
-      does-accept s s′ [] [] (closingOrder p x k n) (Done (o .code) 0 n 0) (rw sound-day all) (rw new)
-      (last
-      ∙ ap (λ (d : Day). withWaiting d (d .waiting ++ (o ∷ []))) blocked
-      ∙ ap (λ (y : Order). withWaiting (admitted (view s) y) ((view s) .waiting ++ (y ∷ []))) new)
-      refl tt
+      listed : s < r .securities
+      listed = ltb-true s (r .securities) (yeses .1 .0)
+
+      pub in-table : s < maxSecurities
+      in-table = omega (arith, listed, standing .backed .rulesOk .securities)
+
+      rest : firstNo (questions d 0 (closingOrder p side s n)) ≡ firstNo (later o)
+      rest = in-parts ∙ passes early (later o) yeses
+
+      module _ {y : Order} (ey : y ≡ o) where
+        pub reckonable : Reckonable l t y
+        reckonable =
+            rw ey
+            (reckons d l o refl [] (standing .backed) (ltb-true p (r .participants) (yeses .0)) listed price
+            (within-high 1 maxLots n (yeses .1 .1 .1 .0)))
+          where
+            price : closingPrice t ≤ maxPrice
+            price = unfold closingPrice in (div-le-of-le-mul (t .pieces) (omega (arith, (standing .turnovers s listed) .high)))
+
+        pub refuse-later : (number : ℕ) → 0 < number → number ≡ firstNo (later y)
+            → Carries r x m k b [] (closingOrder p side s n) m k []
+            (record { answer = Refused number 0; phase = x; book = b })
+        refuse-later number h e =
+            carries-refuse r x m k b [] (closingOrder p side s n) (g .sound) number h (rest ∙ sym (rw ey at e))
+
+        module _ (clear : firstNo (later y) ≡ 0) where
+          shut : x ≡ Closing
+          shut = closing-phase x (yeses .1 .1 .0)
+
+          asked : firstNo (questions d 0 (closingOrder p side s n)) ≡ 0
+          asked = rest ∙ (rw ey at clear)
+
+          admits : Admits r l b y m k
+          unfolding questions
+          admits =
+              rw ey
+              (record {
+                row = refl;
+                standing = subst (λ (z : Phase). Standing (dayOf r z m k b)) shut standing;
+                participant = p;
+                side = side;
+                security = s;
+                lots = n;
+                entry = refl;
+                asked =
+                    subst (λ (z : Phase). firstNo (closingQuestions (dayOf r z m k b) p side s n) ≡ 0) shut asked;
+              })
+
+          pub appendable : Appendable l b y m k
+          appendable = record { rules = r; admits = admits }
+
+          pub appended : {m′ k′ : List ℕ} (b′ : OrderBook) → Appends l b y m k m′ k′ b′
+              → Carries r x m k b [] (closingOrder p side s n) m′ k′ []
+              (record { answer = Done (b′ .codes) (b′ .filled) (b′ .left) (b′ .trades); phase = x; book = b′ })
+          unfolding effect placed
+          appended {m′} {k′} b′ done =
+              let z : AppendedAs (placed (dayOf r Closing m k b) o) r m′ k′ b′ =
+              subst (λ (w : Order). AppendedAs (placed (dayOf r Closing m k b) w) r m′ k′ b′) ey (done r admits) in
+              let same : dayOf r x m′ k′ b′ ≡ (placed d o) .day =
+              subst (λ (q : Phase). dayOf r q m′ k′ b′ ≡ (placed (dayOf r q m k b) o) .day) (sym shut) (z .day) in
+              carries-accept r x m k b [] (closingOrder p side s n) (g .sound) m′ k′ [] _ asked (z .answer) same refl

@@ -1,241 +1,181 @@
--- What holds at the head of the pairing loop: from here the definition comes to the same as from the start.
-use Prim.Native.Nat.{ℕ, suc, _+_, _*_, _-_, _≤_, _<_, min}
+-- What holds between two securities of the closing session: from here the definition comes to the same as from the start.
+use Prim.Native.Nat.{ℕ, suc, _+_, _*_, _-_, _≤_, _<_}
 use native.Mathlib.Nat.{zero-add}
 use native.Mathlib.Numerals.{add-one}
 use native.Mathlib.Omega.{arith}
 use mathlib.Core.Path.{_≡_, refl, ap, sym, _∙_, subst}
-use mathlib.Core.List.{List, [], _∷_}
-use mathlib.Core.Bool.{true}
-use lib.ListN.{length, take-append-drop}
-use Rattle.market.specs.declared.Phase.the-variants.{Closing}
-use Rattle.market.specs.declared.State.{State}
-use Rattle.market.specs.Limits.{lentAtLeast, maxLots, maxWaiting, numbersPerTrade}
-use Rattle.market.specs.Day.{Day, noOrder, turnoverAt, view}
+use mathlib.Core.List.{List, [], _∷_, _++_}
+use lib.ListN.{length, length-append, take-append-drop}
+use Rattle.market.specs.declared.Kind.the-variants as kind
+use Rattle.market.specs.declared.OrderBook.{OrderBook}
+use Rattle.market.specs.declared.Phase.the-variants.{Closed, Closing}
+use Rattle.market.specs.declared.Security.{Security}
+use Rattle.market.specs.Limits.{maxWaiting, numbersPerTrade}
+use Rattle.market.specs.declared.Rules.{Rules}
+use Rattle.market.specs.Day.{Day, row, turnoverAt}
+use Rattle.market.specs.View.{dayOf}
 use Rattle.market.specs.Needs.{closingPrice}
-use Rattle.market.specs.Positions.{settle}
-use Rattle.market.specs.Sound.{sound}
-use Rattle.market.specs.TradeList.{Trade, lotsOf, tradeOf, written}
-use Rattle.market.specs.Matching.{lotsAt}
-use Rattle.market.specs.Closing.{Paired, closingTerms, followed, pairOne, pairedOff, pairsFrom}
-use Rattle.market.proofs.View.{first-length}
-use Rattle.market.proofs.Lists.{all-at}
-use Rattle.market.proofs.Known.{OrderOk}
-use Rattle.market.proofs.Pairs.{meet-apart}
-use Rattle.market.proofs.Sized.{SizedState}
-use Rattle.conservation.proofs.Good.{Good}
-use Rattle.conservation.proofs.Closing.{closing-paired}
-use Rattle.conservation.proofs.Sound.{bookOf, good-sound}
-use Rattle.matching.specs.Trading.{Settles, waitingAt}
+use Rattle.market.specs.Waiting.{allLeave}
+use Rattle.market.specs.TradeList.{Trade, lotsOf}
+use Rattle.market.specs.Closing.{Paired, Terms, closingTerms, endResult, followed, pairs, pairsFrom}
+use Rattle.market.proofs.Lists.{sum-append}
+use Rattle.invariant.specs.Standing.{Standing}
+use Rattle.invariant.proofs.Pairing.{Fair, closing-fair}
 use Rattle.matching.specs.Written.{tradeWritten}
 use Rattle.matching.proofs.Writing.{written-length, written-next, writtenFrom}
-use Rattle.session.specs.declared.Pair.the-variants.{At, Nothing}
-use Rattle.session.specs.Pairing.{PairDone, PairReady, SessionPaired, nextBuy, nextSell, pairOf, priceAt}
-use Rattle.session.specs.Pairing.{sessionPairs}
-use Rattle.session.proofs.Leaving.{state-good}
-use Rattle.session.proofs.Meeting.{NextPair, next-pair, no-pair, pair-settles, pair-shorter}
-use Rattle.session.proofs.Meeting.{pair-sound, priceOn}
+use Rattle.session.specs.Leaving.{AllLeft, emptied}
+use Rattle.session.specs.Pairing.{Closes, Counts, EndsAs, Meets, PairedAs, cleared, closingFrom}
 
--- the pairing that is left, from a security on
-abbrev pub restOf : State → ℕ → Day → Paired
-restOf s₀ security d = pairsFrom closingTerms (s₀ .securities - security) security d
+-- one list of trades written after another
+written-append : (ts us : List Trade) (n : ℕ) (v : List ℕ) → numbersPerTrade * (n + length ts) ≤ length v
+    → writtenFrom n (ts ++ us) v ≡ writtenFrom (n + length ts) us (writtenFrom n ts v)
+written-append [] us n v h =
+    let same : n ≡ n + 0 = omega arith in
+    ap (λ (k : ℕ). writtenFrom k us v) same
+    ∙ ap (writtenFrom (n + 0) us) (sym (take-append-drop (numbersPerTrade * n) v))
+written-append (t ∷ ts) us n v h =
+    let room : numbersPerTrade * n + numbersPerTrade ≤ length v = omega arith in
+    let v′ = tradeWritten n t v in
+    let same : n + 1 + length ts ≡ n + suc (length ts) = omega arith in
+    written-next v n t room (ts ++ us)
+    ∙ written-append ts us (n + 1) v′ (omega (arith, written-length v n t room))
+    ∙ ap (λ (k : ℕ). writtenFrom k us (writtenFrom (n + 1) ts v′)) same
+    ∙ ap (writtenFrom (n + suc (length ts)) us) (sym (written-next v n t room ts))
 
--- s₀ and l₀ are the state and the lent list at the start
-pub record Rounds (s₀ : State) (l₀ l : List ℕ) (s : State) (security lots made : ℕ) : Type 0 where
-  pub sized : SizedState s
-  pub sound : sound (view s) ≡ true
-  pub phase : s .phase ≡ Closing
-  pub room : s₀ .count ≤ maxWaiting
-  pub lent : lentAtLeast ≤ length l₀
-  pub long : length l ≡ length l₀
-  pub count : made + s .count ≤ s₀ .count
-  pub few : lots ≤ maxLots * made
-  pub day : (restOf s₀ security (view s)) .day ≡ (sessionPairs s₀) .day
-  pub trades : made + length ((restOf s₀ security (view s)) .trades) ≡ length ((sessionPairs s₀) .trades)
-  pub sum : lots + lotsOf ((restOf s₀ security (view s)) .trades) ≡ lotsOf ((sessionPairs s₀) .trades)
-  pub list : writtenFrom made ((restOf s₀ security (view s)) .trades) l ≡ written ((sessionPairs s₀) .trades) l₀
+-- m₀, k₀, v₀ and b₀ are money, pieces, lent list and order book at the start; the securities before s are done
+pub record Rounds (r : Rules) (n : ℕ) (m₀ k₀ v₀ : List ℕ) (b₀ : OrderBook) (m k v : List ℕ) (b : OrderBook) (s : ℕ)
+    : Type 0 where
+  pub standing : Standing (dayOf r Closing m k b)
+  pub left : b .left ≡ 0
+  pub day : (closingFrom r (n - s) s m k b) .day ≡ (closingFrom r n 0 m₀ k₀ b₀) .day
+  pub trades : b .trades + length ((closingFrom r (n - s) s m k b) .trades) ≡ length ((closingFrom r n 0 m₀ k₀ b₀) .trades)
+  pub sum : b .filled + lotsOf ((closingFrom r (n - s) s m k b) .trades) ≡ lotsOf ((closingFrom r n 0 m₀ k₀ b₀) .trades)
+  pub list : writtenFrom (b .trades) ((closingFrom r (n - s) s m k b) .trades) v
+      ≡ writtenFrom 0 ((closingFrom r n 0 m₀ k₀ b₀) .trades) v₀
 
-pub rounds-start : (s : State) (l : List ℕ) → SizedState s → sound (view s) ≡ true → s .phase ≡ Closing
-    → lentAtLeast ≤ length l → Rounds s l l s 0 0 0
-rounds-start s l size e phase lent =
-    let whole : restOf s 0 (view s) ≡ sessionPairs s =
-    ap (λ (n : ℕ). pairsFrom closingTerms n 0 (view s)) (omega arith) in
+pub rounds-start : (r : Rules) (n : ℕ) (m k v : List ℕ) (b : OrderBook) → Standing (dayOf r Closing m k b)
+    → Rounds r n m k v b m k v (cleared b) 0
+rounds-start r n m k v b st =
+    let same : closingFrom r (n - 0) 0 m k b ≡ closingFrom r n 0 m k b =
+    ap (λ (q : ℕ). closingFrom r q 0 m k b) (omega arith) in
     record {
-      sized = size;
-      sound = e;
-      phase = phase;
-      room = omega (arith, (state-good size e) .room, first-length (s .count) (s .orders));
-      lent = lent;
-      long = refl;
-      count = omega arith;
-      few = omega arith;
-      day = ap (λ (x : Paired). x .day) whole;
-      trades = zero-add _ ∙ ap (λ (x : Paired). length (x .trades)) whole;
-      sum = zero-add _ ∙ ap (λ (x : Paired). lotsOf (x .trades)) whole;
-      list = ap (λ (x : Paired). written (x .trades) l) whole;
+      standing = st;
+      left = refl;
+      day = ap (λ (x : Paired). x .day) same;
+      trades = zero-add _ ∙ ap (λ (x : Paired). length (x .trades)) same;
+      sum = zero-add _ ∙ ap (λ (x : Paired). lotsOf (x .trades)) same;
+      list = ap (λ (x : Paired). writtenFrom 0 (x .trades) v) same;
     }
 
-module _ {s₀ : State} {l₀ l : List ℕ} {s : State} {security lots made : ℕ} (g : Rounds s₀ l₀ l s security lots made)
-  where
+pub cleared-closes : {r : Rules} {n : ℕ} {l : List Security} {b : OrderBook} {m k : List ℕ} → Closes r n l b m k
+    → Closes r n l (cleared b) m k
+cleared-closes f = record { securities = f .securities; table = f .table; standing = f .standing }
+
+pub counts-start : (b : OrderBook) (v : List ℕ) → b .count ≤ maxWaiting → numbersPerTrade * b .count ≤ length v
+    → Counts (cleared b) v
+counts-start b v room lent = record { most = omega arith; few = omega arith; lent = omega arith }
+
+module _ {r : Rules} {n : ℕ} {m₀ k₀ v₀ : List ℕ} {b₀ : OrderBook} {m k v : List ℕ} {b : OrderBook} {s : ℕ}
+    (g : Rounds r n m₀ k₀ v₀ b₀ m k v b s) where
+  -- where no security is left, what the contract says holds
+  pub rounds-end : n ≤ s → PairedAs (closingFrom r n 0 m₀ k₀ b₀) r Closing (cleared b₀) v₀ m k v b
+  unfolding pairsFrom lotsOf
+  rounds-end h =
+      let d = dayOf r Closing m k b in
+      let none : n - s ≡ 0 = omega arith in
+      let over : closingFrom r (n - s) s m k b ≡ record { day = d; trades = [] } =
+      ap (λ (q : ℕ). closingFrom r q s m k b) none in
+      record {
+        day = sym (ap (λ (x : Paired). x .day) over) ∙ g .day;
+        standing = subst Standing (sym (ap (λ (x : Paired). x .day) over) ∙ g .day) (g .standing);
+        lots = omega (arith, g .sum, ap (λ (x : Paired). lotsOf (x .trades)) over);
+        trades = omega (arith, g .trades, ap (λ (x : Paired). length (x .trades)) over);
+        list =
+            sym (take-append-drop (numbersPerTrade * b .trades) v)
+            ∙ sym (ap (λ (x : Paired). writtenFrom (b .trades) (x .trades) v) over)
+            ∙ g .list;
+        left = g .left;
+      }
+
+  module _ (more : s < n) (all : r .securities ≡ n) {l : Security} (own : row r s ≡ l) {p : ℕ}
+      (price : p ≡ closingPrice (turnoverAt (b .turnover) s)) where
     abbrev d : Day
-    d = view s
+    d = dayOf r Closing m k b
 
-    good : Good ⊥ (d .rules) (bookOf d) d
-    good = state-good (g .sized) (g .sound)
+    abbrev terms : Terms
+    terms = record { limit = kind.Closing; price = p }
 
-    pub rounds-room : s .count ≤ maxWaiting
-    rounds-room = omega (arith, g .count, g .room)
+    terms-are : terms ≡ closingTerms d s
+    unfolding closingTerms
+    terms-are = ap (λ (q : ℕ). record { limit = kind.Closing; price = q }) price
 
-    -- where no security is left, what the contract says holds
-    pub rounds-end : s₀ .securities ≤ security
-        → SessionPaired s₀ l₀ l (record { state = s; lots = lots; trades = made })
+    pub rounds-meets : Meets r Closing l s terms b m k
+    rounds-meets = record {
+      row = own;
+      known = omega arith;
+      standing = g .standing;
+      fair = subst (λ (t : Terms). Fair s t d) (sym terms-are) (closing-fair d s (g .standing) refl);
+    }
+
+    pub rounds-next : {m′ k′ v′ : List ℕ} (b′ : OrderBook) → Counts b′ v′ → length v′ ≡ length v
+        → PairedAs (pairs s terms d) r Closing b v m′ k′ v′ b′ → Rounds r n m₀ k₀ v₀ b₀ m′ k′ v′ b′ (s + 1)
     unfolding pairsFrom lotsOf
-    rounds-end h =
-        let none : s₀ .securities - security ≡ 0 = omega arith in
-        let over : restOf s₀ security d ≡ record { day = d; trades = [] } =
-        ap (λ (n : ℕ). pairsFrom closingTerms n security d) none in
+    rounds-next {m′} {k′} {v′} b′ counts long done =
+        let x = pairs s terms d in
+        let rest = closingFrom r (n - (s + 1)) (s + 1) m′ k′ b′ in
+        let split : n - s ≡ suc (n - (s + 1)) = omega arith in
+        let whole : closingFrom r (n - s) s m k b ≡ record { day = rest .day; trades = x .trades ++ rest .trades } =
+        ap (λ (q : ℕ). closingFrom r q s m k b) split
+        ∙ ap (λ (t : Terms). followed (pairs s t d) (pairsFrom closingTerms (n - (s + 1)) (suc s))) (sym terms-are)
+        ∙ ap (λ (q : ℕ). followed x (pairsFrom closingTerms (n - (s + 1)) q)) (sym (add-one s))
+        ∙ ap (λ (e : Day). record {
+          day = (pairsFrom closingTerms (n - (s + 1)) (s + 1) e) .day;
+          trades = x .trades ++ (pairsFrom closingTerms (n - (s + 1)) (s + 1) e) .trades;
+        }) (sym (done .day)) in
+        let room : numbersPerTrade * (b .trades + length (x .trades)) ≤ length v =
+        omega (arith, counts .lent, done .trades, long) in
         record {
-          day = sym (ap (λ (x : Paired). x .day) over) ∙ g .day;
-          lots = omega (arith, g .sum, ap (λ (x : Paired). lotsOf (x .trades)) over);
-          trades = omega (arith, g .trades, ap (λ (x : Paired). length (x .trades)) over);
+          standing = subst Standing (sym (done .day)) (done .standing);
+          left = done .left ∙ g .left;
+          day = sym (ap (λ (y : Paired). y .day) whole) ∙ g .day;
+          trades =
+              omega (
+                arith,
+                g .trades,
+                done .trades,
+                ap (λ (y : Paired). length (y .trades)) whole,
+                length-append (x .trades) (rest .trades),
+              );
+          sum =
+              omega (
+                arith,
+                g .sum,
+                done .lots,
+                ap (λ (y : Paired). lotsOf (y .trades)) whole,
+                sum-append (λ (y : Trade). y .lots) (x .trades) (rest .trades),
+              );
           list =
-              sym (take-append-drop (numbersPerTrade * made) l)
-              ∙ sym (ap (λ (x : Paired). writtenFrom made (x .trades) l) over)
+              ap (λ (q : ℕ). writtenFrom q (rest .trades) v′) (done .trades)
+              ∙ ap (writtenFrom (b .trades + length (x .trades)) (rest .trades)) (done .list)
+              ∙ sym (written-append (x .trades) (rest .trades) (b .trades) v room)
+              ∙ sym (ap (λ (y : Paired). writtenFrom (b .trades) (y .trades) v) whole)
               ∙ g .list;
         }
 
-    module _ (more : security < s₀ .securities) where
-      abbrev after : ℕ
-      after = s₀ .securities - (security + 1)
+-- the rest comes off
+module _ {r : Rules} {n : ℕ} {l : List Security} {m₀ k₀ v₀ : List ℕ} {b₀ : OrderBook} (c : Closes r n l b₀ m₀ k₀)
+    {m k v : List ℕ} {b : OrderBook} (p : PairedAs (closingFrom r n 0 m₀ k₀ b₀) r Closing (cleared b₀) v₀ m k v b) where
+  pub paired-standing : Standing (dayOf r Closing m k b)
+  paired-standing = subst Standing (sym (p .day)) (p .standing)
 
-      split : s₀ .securities - security ≡ suc after
-      split = omega arith
-
-      -- no pair: the next security
-      pub rounds-skip : pairOf (nextBuy d security) (nextSell d security) ≡ Nothing
-          → Rounds s₀ l₀ l s (security + 1) lots made
-      rounds-skip h =
-          let same : restOf s₀ security d ≡ restOf s₀ (security + 1) d =
-          ap (λ (n : ℕ). pairsFrom closingTerms n security d) split
-          ∙ no-pair d after security h
-          ∙ ap (λ (k : ℕ). pairsFrom closingTerms after k d) (sym (add-one security)) in
-          record {
-            sized = g .sized;
-            sound = g .sound;
-            phase = g .phase;
-            room = g .room;
-            lent = g .lent;
-            long = g .long;
-            count = g .count;
-            few = g .few;
-            day = rw same at (g .day);
-            trades = rw same at (g .trades);
-            sum = rw same at (g .sum);
-            list = rw same at (g .list);
-          }
-
-      -- a pair trades
-      module _ (i j : ℕ) (h : pairOf (nextBuy d security) (nextSell d security) ≡ At i j) where
-        abbrev n : ℕ
-        n = min (lotsAt d i) (lotsAt d j)
-
-        next : NextPair d after security i j
-        next = next-pair d after security i j h
-
-        abbrev trade : Trade
-        trade = tradeOf (d .rules) (waitingAt s i) (waitingAt s j) (priceAt s i) n
-
-        price : priceAt s i ≡ priceOn d security
-        price = ap (λ (k : ℕ). closingPrice (turnoverAt (d .turnover) k)) (sym (next .buys .security))
-
-        step : restOf s₀ security d ≡ followed (pairOne d i j (priceAt s i) n) (restOf s₀ security)
-        step =
-            subst (λ (p : ℕ). restOf s₀ security d ≡ followed (pairOne d i j p n) (restOf s₀ security)) (sym price)
-            (subst (λ (k : ℕ). pairsFrom closingTerms k security d ≡ followed (pairOne d i j (priceOn d security) n)
-            (λ x. pairsFrom closingTerms k security x)) (sym split) (next .rest))
-
-        pub rounds-buy : i < s .count
-        rounds-buy = omega (arith, next .buys .inside, first-length (s .count) (s .orders))
-
-        pub rounds-sell : j < s .count
-        rounds-sell = omega (arith, next .sells .inside, first-length (s .count) (s .orders))
-
-        settles : Settles d (waitingAt s i) (waitingAt s j) (priceAt s i) n
-        settles =
-            subst (λ (p : ℕ). Settles d (waitingAt s i) (waitingAt s j) p n) (sym price)
-            (pair-settles good (g .phase) security i j n (next .buys) (next .sells) (omega arith) (omega arith))
-
-        pub rounds-ready : PairReady s i j n made l
-        rounds-ready = record {
-          settles = settles;
-          buy = rounds-buy;
-          sell = rounds-sell;
-          apart = meet-apart security _ (d .waiting) i j (next .buys) (next .sells);
-          room = rounds-room;
-          lent = omega (arith, g .lent, g .long, g .count, g .room, rounds-buy);
-        }
-
-        pub rounds-lots : lots + n ≤ maxLots * (made + 1)
-        rounds-lots =
-            omega (arith, g .few, (all-at (OrderOk (d .rules)) noOrder (d .waiting) i (good .orders) (next .buys .inside)) .top)
-
-        -- what the code hands over: its lots, the state and the list after the trade
-        module _ {l′ : List ℕ} {s′ : State} {n′ : ℕ} (size : SizedState s′) (part : n′ ≡ n)
-            (done : PairDone s i j n′ made l l′ s′) where
-          day-after : view s′ ≡ pairedOff d i j (priceAt s i) n
-          day-after = done .day ∙ ap (pairedOff d i j (priceAt s i)) part
-
-          pub rounds-less : s′ .count < s .count
-          unfolding pairedOff settle
-          rounds-less =
-              omega (
-                arith,
-                pair-shorter good (g .phase) security i j n (next .buys) (next .sells) (omega arith) (omega arith) (omega arith),
-                ap (λ (x : Day). length (x .waiting)) day-after,
-                first-length (s .count) (s .orders),
-                first-length (s′ .count) (s′ .orders),
-              )
-
-          pub rounds-next : Rounds s₀ l₀ l′ s′ security (lots + n′) (made + 1)
-          unfolding lotsOf
-          rounds-next =
-              let listed : l′ ≡ tradeWritten made trade l =
-              done .list
-              ∙ ap (λ (k : ℕ). tradeWritten made (tradeOf (d .rules) (waitingAt s i) (waitingAt s j) (priceAt s i) k) l) part in
-              let lent = rounds-ready .lent in
-              let rest = restOf s₀ security (view s′) in
-              let again : restOf s₀ security d ≡ record { day = rest .day; trades = trade ∷ rest .trades } =
-              step
-              ∙ ap (λ (x : Day). record {
-                day = (restOf s₀ security x) .day;
-                trades = trade ∷ (restOf s₀ security x) .trades;
-              }) (sym day-after) in
-              record {
-                sized = size;
-                sound =
-                    subst (λ (x : Day). sound x ≡ true) (sym (day-after ∙ ap (λ (p : ℕ). pairedOff d i j p n) price))
-                    (pair-sound good (g .phase) security i j n (next .buys) (next .sells) (omega arith) (omega arith));
-                phase = ap (λ (x : Day). x .phase) day-after ∙ phase-kept ∙ g .phase;
-                room = g .room;
-                lent = g .lent;
-                long = ap length listed ∙ written-length l made trade lent ∙ g .long;
-                count = omega (arith, g .count, rounds-less);
-                few = rw part rounds-lots;
-                day = sym (ap (λ (x : Paired). x .day) again) ∙ g .day;
-                trades = omega (arith, g .trades, ap (λ (x : Paired). length (x .trades)) again);
-                sum = omega (arith, part, g .sum, ap (λ (x : Paired). lotsOf (x .trades)) again);
-                list =
-                    ap (writtenFrom (made + 1) (rest .trades)) listed
-                    ∙ sym (written-next l made trade lent (rest .trades))
-                    ∙ sym (ap (λ (x : Paired). writtenFrom made (x .trades) l) again)
-                    ∙ g .list;
-              }
-            where
-              phase-kept : (pairedOff d i j (priceAt s i) n) .phase ≡ d .phase
-              phase-kept = unfold pairedOff settle in refl
-
--- the day after the pairing is sound
-pub paired-sound : (s s′ : State) → SizedState s → sound (view s) ≡ true → s .phase ≡ Closing
-    → view s′ ≡ (sessionPairs s) .day → sound (view s′) ≡ true
-paired-sound s s′ size e phase after =
-    let paired = closing-paired (bookOf (view s)) (view s) (state-good size e) phase in
-    subst (λ (x : Day). sound x ≡ true) (sym after) (good-sound _ _ (paired .good))
+  pub paired-ends : {m′ k′ : List ℕ} → AllLeft l b m k m′ k′
+      → EndsAs (endResult Closed (closingFrom r n 0 m₀ k₀ b₀)) r v₀ m′ k′ v (emptied b)
+  paired-ends left =
+      let x = closingFrom r n 0 m₀ k₀ b₀ in
+      let lots : b .filled ≡ lotsOf (x .trades) = p .lots ∙ zero-add _ in
+      let count : b .trades ≡ length (x .trades) = p .trades ∙ zero-add _ in
+      record {
+        answer = rw (lots, count);
+        day = left r Closing Closed (c .table) paired-standing ∙ ap (λ (d : Day). allLeave d Closed) (p .day);
+        list = p .list;
+      }

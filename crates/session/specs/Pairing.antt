@@ -1,61 +1,109 @@
--- The pairing at the session's end, as the code's contracts have it.
+-- The pairing of orders under terms, on the parts of a day: what it asks, and what it does.
 use Prim.Native.Nat.{ℕ, _+_, _*_, _≤_, _<_}
 use mathlib.Core.Path.{_≡_}
 use mathlib.Core.List.{List}
+use mathlib.Core.Bool.{cond}
 use lib.ListN.{length}
-use Rattle.market.specs.declared.Kind.the-variants as kind
-use Rattle.market.specs.declared.Side.the-variants.{Buy, Sell}
-use Rattle.market.specs.declared.State.{State}
-use Rattle.market.specs.Limits.{maxWaiting, numbersPerTrade}
-use Rattle.market.specs.Day.{Day, turnoverAt, view}
-use Rattle.market.specs.Needs.{closingPrice}
-use Rattle.market.specs.TradeList.{lotsOf, tradeOf, written}
-use Rattle.market.specs.Matching.{Best, best, found, none}
-use Rattle.market.specs.Closing.{Paired, closingTerms, counterparty, pairedOff, pairsFrom}
-use Rattle.matching.specs.Trading.{Settles, waitingAt}
-use Rattle.matching.specs.Written.{tradeWritten}
-use Rattle.session.specs.declared.Pair.{Pair}
-use Rattle.session.specs.declared.Pair.the-variants.{At, Nothing}
-use Rattle.session.specs.declared.Pairing.{Pairing}
+use Rattle.market.specs.declared.Answer.the-variants.{Done}
+use Rattle.market.specs.declared.Order.{Order}
+use Rattle.market.specs.declared.OrderBook.{OrderBook}
+use Rattle.market.specs.declared.Phase.{Phase}
+use Rattle.market.specs.declared.Phase.the-variants.{Closed, Closing}
+use Rattle.market.specs.declared.Security.{Security}
+use Rattle.market.specs.Limits.{maxLots, maxWaiting, numbersPerTrade}
+use Rattle.market.specs.Tests.{_<?_}
+use Rattle.market.specs.declared.Rules.{Rules}
+use Rattle.market.specs.Day.{row}
+use Rattle.market.specs.View.{dayOf}
+use Rattle.market.specs.TradeList.{lotsOf, written}
+use Rattle.market.specs.Answers.{Result}
+use Rattle.market.specs.Closing.{Paired, Terms, closingTerms, endResult, pairs, pairsFrom}
+use Rattle.invariant.specs.Standing.{Standing}
+use Rattle.invariant.proofs.Pairing.{Fair}
+use Rattle.matching.proofs.Writing.{writtenFrom}
 
--- the first closing buy, and the first closing sell, of security s
-abbrev pub nextBuy : Day → ℕ → Best
-nextBuy d s = best (counterparty Sell s kind.Closing) (d .waiting)
+-- how many places an order keeps: none where its lots are used up
+abbrev pub places : Order → ℕ
+places o = cond (0 <? o .lots) 1 0
 
-abbrev pub nextSell : Day → ℕ → Best
-nextSell d s = best (counterparty Buy s kind.Closing) (d .waiting)
+-- under rules r, in phase x, l is the row of security s, the day is sound, and the terms t are fair to its buys
+pub record Meets (r : Rules) (x : Phase) (l : Security) (s : ℕ) (t : Terms) (b : OrderBook) (m k : List ℕ) : Type 0 where
+  pub row : row r s ≡ l
+  pub known : s < r .securities
+  pub standing : Standing (dayOf r x m k b)
+  pub fair : Fair s t (dayOf r x m k b)
 
--- a pair needs both sides
-abbrev pub pairOf : Best → Best → Pair
-pairOf none y = Nothing
-pairOf (found i p) none = Nothing
-pairOf (found i p) (found j q) = At i j
+-- the book's lots and trades so far, with room for a trade with each waiting order in the lent list v
+pub record Counts (b : OrderBook) (v : List ℕ) : Type 0 where
+  pub most : b .trades + b .count ≤ maxWaiting
+  pub few : b .filled ≤ maxLots * b .trades
+  pub lent : numbersPerTrade * (b .trades + b .count) ≤ length v
 
--- the closing price of the security of the order at place i
-abbrev pub priceAt : State → ℕ → ℕ
-priceAt s i = closingPrice (turnoverAt ((view s) .turnover) ((waitingAt s i) .security))
+-- there are such rules and such a phase
+pub record Pairable (l : Security) (s : ℕ) (t : Terms) (b : OrderBook) (m k v : List ℕ) : Type 0 where
+  pub rules : Rules
+  pub phase : Phase
+  pub meets : Meets rules phase l s t b m k
+  pub counts : Counts b v
 
--- the buy at place i and the sell at place j can trade n lots, as trade number k of the lent list l
-pub record PairReady (s : State) (i j n k : ℕ) (l : List ℕ) : Type 0 where
-  pub settles : Settles (view s) (waitingAt s i) (waitingAt s j) (priceAt s i) n
-  pub buy : i < s .count
-  pub sell : j < s .count
-  pub apart : i ≡ j → ⊥
-  pub room : s .count ≤ maxWaiting
-  pub lent : numbersPerTrade * k + numbersPerTrade ≤ length l
+-- day, lots, trades and lent list are those of a pairing p of the definition, beside those before it
+pub record PairedAs (p : Paired) (r : Rules) (x : Phase) (b : OrderBook) (v m′ k′ v′ : List ℕ) (b′ : OrderBook) : Type 0
+  where
+    pub day : dayOf r x m′ k′ b′ ≡ p .day
+    pub standing : Standing (p .day)
+    pub lots : b′ .filled ≡ b .filled + lotsOf (p .trades)
+    pub trades : b′ .trades ≡ b .trades + length (p .trades)
+    pub list : v′ ≡ writtenFrom (b .trades) (p .trades) v
+    pub left : b′ .left ≡ b .left
 
--- that trade is done and written
-pub record PairDone (s : State) (i j n k : ℕ) (l l′ : List ℕ) (r : State) : Type 0 where
-  pub day : view r ≡ pairedOff (view s) i j (priceAt s i) n
-  pub list : l′ ≡ tradeWritten k (tradeOf ((view s) .rules) (waitingAt s i) (waitingAt s j) (priceAt s i) n) l
+-- and there is room for what comes next
+pub record Pairs (l : Security) (s : ℕ) (t : Terms) (b : OrderBook) (m k v m′ k′ v′ : List ℕ) (b′ : OrderBook) : Type 0
+  where
+    pub counts : Counts b′ v′
+    pub long : length v′ ≡ length v
+    pub under : (r : Rules) (x : Phase) → Meets r x l s t b m k
+        → PairedAs (pairs s t (dayOf r x m k b)) r x b v m′ k′ v′ b′
 
--- the definition's pairing of all securities
-abbrev pub sessionPairs : State → Paired
-sessionPairs s = pairsFrom closingTerms (s .securities) 0 (view s)
+-- the book before the session's end: no lots and trades are counted yet
+abbrev pub cleared : OrderBook → OrderBook
+cleared b = record {
+  orders = b .orders;
+  count = b .count;
+  codes = b .codes;
+  turnover = b .turnover;
+  filled = 0;
+  left = 0;
+  trades = 0;
+}
 
--- state, lots, trades and lent list are those of the definition
-pub record SessionPaired (s : State) (l l′ : List ℕ) (r : Pairing) : Type 0 where
-  pub day : view (r .state) ≡ (sessionPairs s) .day
-  pub lots : r .lots ≡ lotsOf ((sessionPairs s) .trades)
-  pub trades : r .trades ≡ length ((sessionPairs s) .trades)
-  pub list : l′ ≡ written ((sessionPairs s) .trades) l
+-- rules r have n securities with the table l, and the day of these parts is sound while closing
+pub record Closes (r : Rules) (n : ℕ) (l : List Security) (b : OrderBook) (m k : List ℕ) : Type 0 where
+  pub securities : r .securities ≡ n
+  pub table : r .table ≡ l
+  pub standing : Standing (dayOf r Closing m k b)
+
+-- there are such rules, and room for a trade with each waiting order
+pub record Closable (n : ℕ) (l : List Security) (b : OrderBook) (m k v : List ℕ) : Type 0 where
+  pub rules : Rules
+  pub closes : Closes rules n l b m k
+  pub lent : numbersPerTrade * b .count ≤ length v
+
+-- the pairing of all securities from s on
+abbrev pub closingFrom : Rules → (n s : ℕ) → (m k : List ℕ) → OrderBook → Paired
+closingFrom r n s m k b = pairsFrom closingTerms n s (dayOf r Closing m k b)
+
+-- under all such rules, the definition's pairing of the closing session
+abbrev pub ClosingPairs : (n : ℕ) → List Security → OrderBook → (m k v m′ k′ v′ : List ℕ) → OrderBook → Type 0
+ClosingPairs n l b m k v m′ k′ v′ b′ =
+    (r : Rules) → Closes r n l b m k → PairedAs (closingFrom r n 0 m k b) r Closing (cleared b) v m′ k′ v′ b′
+
+-- answer, day and lent list are those of a result x
+pub record EndsAs (x : Result) (r : Rules) (v m′ k′ v′ : List ℕ) (b′ : OrderBook) : Type 0 where
+  pub answer : Done 0 (b′ .filled) 0 (b′ .trades) ≡ x .answer
+  pub day : dayOf r Closed m′ k′ b′ ≡ x .day
+  pub list : v′ ≡ written (x .trades) v
+
+-- under all such rules, the definition's end of the session
+abbrev pub Ends : (n : ℕ) → List Security → OrderBook → (m k v m′ k′ v′ : List ℕ) → OrderBook → Type 0
+Ends n l b m k v m′ k′ v′ b′ =
+    (r : Rules) → Closes r n l b m k → EndsAs (endResult Closed (closingFrom r n 0 m k b)) r v m′ k′ v′ b′

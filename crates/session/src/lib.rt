@@ -1,96 +1,299 @@
-// The closing session: its start, its orders, its end. Each function takes a sound state by `requires`; the public
-// calls test it.
+// The closing session on parts: its start, its orders, its end. Positions and the trade list are lent, the order book goes
+// by value.
 use amounts::closing_price;
 use amounts::within;
 use market::Answer;
+use market::Carried;
 use market::Kind;
 use market::LENT_AT_LEAST;
 use market::MAX_CODES;
 use market::MAX_LOTS;
 use market::MAX_WAITING;
 use market::Order;
-use market::Outcome;
+use market::OrderBook;
 use market::Phase;
+use market::Rules;
+use market::Security;
 use market::Side;
-use market::State;
-use market::accepted;
+use market::Turnover;
+use market::declined;
 use market::is_closing;
 use market::is_open;
-use market::refused;
-use market::with_phase;
 use matching::Found;
-use matching::Orders;
+use matching::execute;
 use matching::lesser;
 use matching::preferred;
-use matching::settle;
-use matching::taken_off;
-use matching::write_trade;
-use waiting::admitted;
-use waiting::appended;
+use matching::with_lots;
+use waiting::block_need;
 use waiting::covers;
-use waiting::left;
+use waiting::free_need;
+ghost use Prim.Native.Nat.{_≤_};
 ghost use mathlib.Core.Path.{_≡_};
 ghost use mathlib.Core.List.{[]};
-ghost use mathlib.Core.Bool.{true};
-ghost use Prim.Native.Nat.{_≤_, _<_};
-ghost use lib.ListN.{length};
-ghost use Rattle.market.specs.declared.Kind.the-variants.{Closing as closingKind};
-ghost use Rattle.market.specs.declared.Phase.the-variants.{Closing as closingPhase};
-ghost use Rattle.market.specs.Limits.{lentAtLeast, maxCodes, maxWaiting};
-ghost use Rattle.market.specs.Day.{firstOrders, view};
-ghost use Rattle.market.specs.Waiting.{allLeave, takeOff};
-ghost use Rattle.market.specs.Sound.{sound};
-ghost use Rattle.market.specs.Calls.{closingOf, closingOrder, endSession, startClosing};
-ghost use Rattle.market.specs.Questions.{closingQuestions, firstNo};
-ghost use Rattle.market.specs.Matching.{best};
-ghost use Rattle.market.specs.Closing.{counterparty, takeBoth};
-ghost use Rattle.market.specs.Contract.{Does};
-ghost use Rattle.matching.specs.Search.{bestOf};
-ghost use Rattle.session.specs.Pairing.{PairDone, PairReady, SessionPaired, nextBuy, nextSell, pairOf};
+ghost use Rattle.market.specs.Limits.{maxCodes};
+ghost use Rattle.market.specs.Calls.{closingOrder, endSession, startClosing};
+ghost use Rattle.market.specs.Questions.{firstNo};
+ghost use Rattle.market.specs.Closing.{counterparty as standsFor};
+ghost use Rattle.market.specs.Parts.{Carries, Ready};
+ghost use Rattle.waiting.specs.Claims.{Reckonable};
+ghost use Rattle.session.specs.Leaving.{AllLeft, Leavable};
+ghost use Rattle.session.specs.Pairing.{Closable, ClosingPairs, Ends, Pairable, Pairs, places};
+ghost use Rattle.session.specs.Appending.{Appendable, Appends, closingWith, earlyClosing, laterClosing};
 
-// The places of a buy and a sell that trade next.
-enum Pair {
-    Nothing,
-    At(usize, usize),
-}
-
-// The state after the pairing, the lots of its trades, their number.
-struct Pairing {
-    state: State,
-    lots: u64,
-    trades: u64,
-}
-
-// All waiting orders come off, their needs freed.
-fn all_left(s: State, phase: Phase) -> State
-    requires { ⌜ sound (view s) ≡ true ⌝ }
-    ensures { λ r. ⌜ view r ≡ allLeave (view s) phase ⌝ }
+// The needs of all waiting orders are freed. The caller's book has no orders then: `book.count = 0`.
+pub fn free_all(
+    book: OrderBook,
+    table: [Security; 16],
+    money: &mut [u64; 512],
+    pieces: &mut [u64; 512],
+)
+    requires { ⌜ Leavable table book (now money) (now pieces) ⌝ }
+    ensures { λ _. ⌜ AllLeft table book (now (money .entry)) (now (pieces .entry)) (now (money .exit)) (now (pieces .exit)) ⌝ }
 {
-    let mut state = s;
-    while 0 < state.count {
-        state = left(state, 0);
+    let count = book.count;
+    let mut i: usize = 0;
+    while i < count {
+        let o = book.orders[i];
+        let security = o.security as usize;
+        let row = table[security];
+        let turnover = book.turnover[security];
+        free_need(money, pieces, row, turnover, o);
+        i += 1;
     }
-    with_phase(state, phase)
 }
 
-pub fn start_closing(s: State) -> Outcome
-    requires { ⌜ sound (view s) ≡ true ⌝ }
-    ensures { λ r. ⌜ Does s [] startClosing r [] ⌝ }
-{
-    let phase = s.phase;
-    if !is_open(phase) {
-        return refused(s, 6);
-    }
-    accepted(all_left(s, Phase::Closing))
-}
-
-// A closing order as it enters: it has no price.
-fn closing_order(s: State, participant: u64, side: Side, security: u64, lots: u64) -> Order
-    requires { ⌜ s .codes ≤ maxCodes ⌝ }
-    ensures { λ r. ⌜ r ≡ closingOf (view s) participant side security lots ⌝ }
+// What stands for the other side when the oldest order of a side is looked for.
+fn counterparty(side: Side, security: u64, limit: Kind) -> Order
+    ensures { λ r. ⌜ r ≡ standsFor side security limit ⌝ }
 {
     Order {
-        code: s.codes + 1,
+        code: 0,
+        participant: 0,
+        side,
+        security,
+        lots: 0,
+        kind: limit,
+    }
+}
+
+// How many places an order keeps: none where its lots are used up.
+fn places_of(o: Order) -> usize
+    ensures { λ r. ⌜ r ≡ places o ⌝ }
+{
+    if 0 < o.lots { 1 } else { 0 }
+}
+
+// The first buy with the first sell of a security, until one side is used up. `limit` and `price` are the terms: which
+// orders meet, and at which price. These trades don't enter Q or T. Lots and trades add to those of the book.
+pub fn pair_all(
+    b: OrderBook,
+    security: u64,
+    limit: Kind,
+    price: u64,
+    row: Security,
+    money: &mut [u64; 512],
+    pieces: &mut [u64; 512],
+    trades: &mut [u64],
+) -> OrderBook
+    requires { ⌜ Pairable row security (record { limit = limit; price = price }) b (now money) (now pieces) (now trades) ⌝ }
+    ensures { λ r. ⌜ Pairs row security (record { limit = limit; price = price }) b (now (money .entry)) (now (pieces .entry)) (now (trades .entry)) (now (money .exit)) (now (pieces .exit)) (now (trades .exit)) r ⌝ }
+{
+    let mut book = b;
+    let turnover = book.turnover[security as usize];
+    let seller = counterparty(Side::Sell, security, limit);
+    let buyer = counterparty(Side::Buy, security, limit);
+    let mut made = book.trades as usize;
+    'pairs: loop {
+        // The list is by rising code, so the first of equal prices is the oldest.
+        let count = book.count;
+        let mut buys = Found::Nothing;
+        let mut sells = Found::Nothing;
+        let mut i: usize = 0;
+        'search: while i < count {
+            let o = book.orders[i];
+            buys = preferred(seller, buys, o, i);
+            sells = preferred(buyer, sells, o, i);
+            i += 1;
+        }
+        let Found::At(at, _) = buys else {
+            break 'pairs;
+        };
+        let Found::At(to, _) = sells else {
+            break 'pairs;
+        };
+        let buy = book.orders[at];
+        let sell = book.orders[to];
+        let lots = lesser(buy.lots, sell.lots);
+        execute(
+            money,
+            pieces,
+            trades,
+            made,
+            row,
+            turnover,
+            buy,
+            sell,
+            price,
+            lots,
+        );
+        book.orders[at] = with_lots(buy, buy.lots - lots);
+        book.orders[to] = with_lots(sell, sell.lots - lots);
+        // A filled order gives its place up. In a function of its own this would copy the book.
+        let mut k: usize = 0;
+        let mut kept: usize = 0;
+        'keep: while k < count {
+            let o = book.orders[k];
+            book.orders[kept] = o;
+            kept += places_of(o);
+            k += 1;
+        }
+        book.count = kept;
+        book.filled = book.filled + lots;
+        made += 1;
+    }
+    book.trades = made as u64;
+    book
+}
+
+// Security by security, at the closing price. Lots and trades of the book are those of the pairing.
+fn pair_closing(
+    b: OrderBook,
+    securities: u64,
+    table: [Security; 16],
+    money: &mut [u64; 512],
+    pieces: &mut [u64; 512],
+    trades: &mut [u64],
+) -> OrderBook
+    requires { ⌜ Closable securities table b (now money) (now pieces) (now trades) ⌝ }
+    ensures { λ r. ⌜ ClosingPairs securities table b (now (money .entry)) (now (pieces .entry)) (now (trades .entry)) (now (money .exit)) (now (pieces .exit)) (now (trades .exit)) r ⌝ }
+{
+    let mut book = b;
+    book.filled = 0;
+    book.left = 0;
+    book.trades = 0;
+    let mut security: u64 = 0;
+    while security < securities {
+        let row = table[security as usize];
+        let turnover = book.turnover[security as usize];
+        let price = closing_price(turnover);
+        book = pair_all(
+            book,
+            security,
+            Kind::Closing,
+            price,
+            row,
+            money,
+            pieces,
+            trades,
+        );
+        security += 1;
+    }
+    book
+}
+
+// The session's end: closing orders trade, the rest comes off. The caller's phase is closed then.
+pub fn end_pairing(
+    b: OrderBook,
+    securities: u64,
+    table: [Security; 16],
+    money: &mut [u64; 512],
+    pieces: &mut [u64; 512],
+    trades: &mut [u64],
+) -> OrderBook
+    requires { ⌜ Closable securities table b (now money) (now pieces) (now trades) ⌝ }
+    ensures { λ r. ⌜ Ends securities table b (now (money .entry)) (now (pieces .entry)) (now (trades .entry)) (now (money .exit)) (now (pieces .exit)) (now (trades .exit)) r ⌝ }
+{
+    let mut book = pair_closing(b, securities, table, money, pieces, trades);
+    free_all(book, table, money, pieces);
+    book.count = 0;
+    book
+}
+
+// The first "no" of questions 4 to 7 of a closing order, which ask for no row of the table; 0 where there is none.
+pub fn early_closing_no(
+    participants: u64,
+    securities: u64,
+    phase: Phase,
+    participant: u64,
+    security: u64,
+    lots: u64,
+) -> u64
+    ensures { λ r. ⌜ r ≡ firstNo (earlyClosing participants securities phase participant security lots) ⌝ }
+{
+    if participants <= participant {
+        return 4;
+    }
+    if securities <= security {
+        return 5;
+    }
+    if !is_closing(phase) {
+        return 6;
+    }
+    if !within(1, MAX_LOTS, lots) {
+        return 7;
+    }
+    0
+}
+
+// The first "no" of questions 11 to 14; 0 where there is none.
+pub fn later_closing_no<'a>(
+    money: &'a [u64; 512],
+    pieces: &'a [u64; 512],
+    row: Security,
+    turnover: Turnover,
+    count: usize,
+    codes: u64,
+    o: Order,
+) -> u64
+    requires { ⌜ Reckonable row turnover o ⌝ }
+    ensures { λ r. ⌜ r ≡ firstNo (laterClosing row turnover count codes o (now (money .entry)) (now (pieces .entry))) ⌝ }
+{
+    if turnover.pieces == 0 {
+        return 11;
+    }
+    if MAX_WAITING as usize <= count {
+        return 12;
+    }
+    if MAX_CODES <= codes {
+        return 13;
+    }
+    if !covers(money, pieces, row, turnover, o) {
+        return 14;
+    }
+    0
+}
+
+// A closing order that passed its questions only waits: its need is blocked, its code given. `row` is its security's.
+pub fn append(
+    b: OrderBook,
+    o: Order,
+    row: Security,
+    money: &mut [u64; 512],
+    pieces: &mut [u64; 512],
+) -> OrderBook
+    requires { ⌜ Appendable row b o (now money) (now pieces) ⌝ }
+    ensures { λ r. ⌜ Appends row b o (now (money .entry)) (now (pieces .entry)) (now (money .exit)) (now (pieces .exit)) r ⌝ }
+{
+    let mut book = b;
+    let turnover = book.turnover[o.security as usize];
+    block_need(money, pieces, row, turnover, o);
+    let count = book.count;
+    book.orders[count] = o;
+    book.count = count + 1;
+    book.codes = o.code;
+    book.filled = 0;
+    book.left = o.lots;
+    book.trades = 0;
+    book
+}
+
+// A closing order as it enters, under the next code: it has no price.
+fn closing_order(codes: u64, participant: u64, side: Side, security: u64, lots: u64) -> Order
+    requires { ⌜ codes ≤ maxCodes ⌝ }
+    ensures { λ r. ⌜ r ≡ closingWith codes participant side security lots ⌝ }
+{
+    Order {
+        code: codes + 1,
         participant,
         side,
         security,
@@ -99,201 +302,95 @@ fn closing_order(s: State, participant: u64, side: Side, security: u64, lots: u6
     }
 }
 
-// Questions 4 to 14 of a closing order: the number of the first "no", or 0.
-fn first_no(s: State, participant: u64, side: Side, security: u64, lots: u64) -> u64
-    requires { ⌜ sound (view s) ≡ true ⌝ }
-    ensures { λ r. ⌜ r ≡ firstNo (closingQuestions (view s) participant side security lots) ⌝ }
+// All waiting orders come off, and closing orders may enter.
+pub fn start_closing(
+    b: OrderBook,
+    rules: Rules,
+    phase: Phase,
+    money: &mut [u64; 512],
+    pieces: &mut [u64; 512],
+) -> Carried
+    requires { ⌜ Ready rules phase (now money) (now pieces) b ⌝ }
+    ensures { λ r. ⌜ Carries rules phase (now (money .entry)) (now (pieces .entry)) b [] startClosing (now (money .exit)) (now (pieces .exit)) [] r ⌝ }
 {
-    if s.participants <= participant {
-        return 4;
+    if !is_open(phase) {
+        return declined(b, phase, 6);
     }
-    if s.securities <= security {
-        return 5;
+    let table = rules.table;
+    let mut book = b;
+    free_all(book, table, money, pieces);
+    book.count = 0;
+    Carried {
+        answer: Answer::Done(0, 0, 0, 0),
+        phase: Phase::Closing,
+        book,
     }
-    let phase = s.phase;
-    if !is_closing(phase) {
-        return 6;
-    }
-    if !within(1, MAX_LOTS, lots) {
-        return 7;
-    }
-    let turnovers = s.turnover;
-    let turnover = turnovers[security as usize];
-    if turnover.pieces == 0 {
-        return 11;
-    }
-    if MAX_WAITING <= s.count as u64 {
-        return 12;
-    }
-    if MAX_CODES <= s.codes {
-        return 13;
-    }
-    if !covers(s, closing_order(s, participant, side, security, lots)) {
-        return 14;
-    }
-    0
 }
 
+// A closing order: its questions, then it only waits.
 pub fn enter_closing_order(
-    s: State,
+    b: OrderBook,
+    rules: Rules,
+    phase: Phase,
     participant: u64,
     side: Side,
     security: u64,
     lots: u64,
-) -> Outcome
-    requires { ⌜ sound (view s) ≡ true ⌝ }
-    ensures { λ r. ⌜ Does s [] (closingOrder participant side security lots) r [] ⌝ }
+    money: &mut [u64; 512],
+    pieces: &mut [u64; 512],
+) -> Carried
+    requires { ⌜ Ready rules phase (now money) (now pieces) b ⌝ }
+    ensures { λ r. ⌜ Carries rules phase (now (money .entry)) (now (pieces .entry)) b [] (closingOrder participant side security lots) (now (money .exit)) (now (pieces .exit)) [] r ⌝ }
 {
-    let number = first_no(s, participant, side, security, lots);
-    if number != 0 {
-        return refused(s, number);
-    }
-    let o = closing_order(s, participant, side, security, lots);
-    let code = o.code;
-    Outcome {
-        answer: Answer::Done(code, 0, lots, 0),
-        state: appended(admitted(s, o), o),
-    }
-}
-
-// The first closing order of the other side, for a security.
-fn first_against(s: State, side: Side, security: u64) -> Found
-    requires { ⌜ s .count ≤ maxWaiting ⌝ }
-    ensures { λ r. ⌜ bestOf r ≡ best (counterparty side security closingKind) ((view s) .waiting) ⌝ }
-{
-    let counterparty = Order {
-        code: 0,
-        participant: 0,
-        side,
+    let early = early_closing_no(
+        rules.participants,
+        rules.securities,
+        phase,
+        participant,
         security,
-        lots: 0,
-        kind: Kind::Closing,
-    };
-    let orders = s.orders;
-    let count = s.count;
-    let mut best = Found::Nothing;
-    let mut i: usize = 0;
-    while i < count {
-        let o = orders[i];
-        best = preferred(counterparty, best, o, i);
-        i += 1;
-    }
-    best
-}
-
-// The first buy and the first sell of a security, if there are both.
-fn next_pair(s: State, security: u64) -> Pair
-    requires { ⌜ s .count ≤ maxWaiting ⌝ }
-    ensures { λ r. ⌜ r ≡ pairOf (nextBuy (view s) security) (nextSell (view s) security) ⌝ }
-{
-    let buy = first_against(s, Side::Sell, security);
-    let sell = first_against(s, Side::Buy, security);
-    let Found::At(i, _) = buy else {
-        return Pair::Nothing;
-    };
-    let Found::At(j, _) = sell else {
-        return Pair::Nothing;
-    };
-    Pair::At(i, j)
-}
-
-// Lots off the later of two places first, so that the other one stays where it is.
-fn taken_in_turn(
-    orders: [Order; 128],
-    count: usize,
-    later: usize,
-    earlier: usize,
-    lots: u64,
-) -> Orders
-    requires { ⌜ (earlier < later) × (later < count) × (count ≤ maxWaiting) ⌝ }
-    ensures { λ r. ⌜ firstOrders (r .count) (r .orders) ≡ takeOff (takeOff (firstOrders count orders) later lots) earlier lots ⌝ }
-{
-    let first = taken_off(orders, count, later, lots);
-    let rest = first.orders;
-    taken_off(rest, first.count, earlier, lots)
-}
-
-fn taken_both(orders: [Order; 128], count: usize, i: usize, j: usize, lots: u64) -> Orders
-    requires { ⌜ (i < count) × (j < count) × (count ≤ maxWaiting) × (i ≡ j → ⊥) ⌝ }
-    ensures { λ r. ⌜ firstOrders (r .count) (r .orders) ≡ takeBoth (firstOrders count orders) i j lots ⌝ }
-{
-    if i < j {
-        return taken_in_turn(orders, count, j, i, lots);
-    }
-    taken_in_turn(orders, count, i, j, lots)
-}
-
-// The buy at place i and the sell at place j trade at the closing price. These trades don't enter Q or T.
-fn pair_at(s: State, i: usize, j: usize, lots: u64, trades: &mut [u64], number: usize) -> State
-    requires { ⌜ PairReady s i j lots number (now trades) ⌝ }
-    ensures { λ r. ⌜ PairDone s i j lots number (now (trades .entry)) (now (trades .exit)) r ⌝ }
-{
-    let orders = s.orders;
-    let buy = orders[i];
-    let sell = orders[j];
-    let security = buy.security as usize;
-    let turnovers = s.turnover;
-    let turnover = turnovers[security];
-    let price = closing_price(turnover);
-    let table = s.table;
-    let line = table[security];
-    write_trade(trades, number, line, buy, sell, price, lots);
-    let waiting = taken_both(orders, s.count, i, j, lots);
-    let rest = waiting.orders;
-    let mut next = settle(s, buy, sell, price, lots);
-    next.orders = rest;
-    next.count = waiting.count;
-    next
-}
-
-// Security by security, oldest with oldest, until one side is used up.
-fn all_paired(s: State, trades: &mut [u64]) -> Pairing
-    requires { ⌜ (sound (view s) ≡ true) × (s .phase ≡ closingPhase) × (lentAtLeast ≤ length (now trades)) ⌝ }
-    ensures { λ r. ⌜ SessionPaired s (now (trades .entry)) (now (trades .exit)) r ⌝ }
-{
-    let securities = s.securities;
-    let mut state = s;
-    let mut security: u64 = 0;
-    let mut lots: u64 = 0;
-    let mut made: usize = 0;
-    while security < securities {
-        let pair = next_pair(state, security);
-        match pair {
-            Pair::Nothing => {
-                security += 1;
-            }
-            Pair::At(i, j) => {
-                let buy = state.orders[i];
-                let sell = state.orders[j];
-                let part = lesser(buy.lots, sell.lots);
-                state = pair_at(state, i, j, part, trades, made);
-                lots += part;
-                made += 1;
-            }
-        }
-    }
-    Pairing {
-        state,
         lots,
-        trades: made as u64,
+    );
+    if 0 < early {
+        return declined(b, phase, early);
+    }
+    let row = rules.table[security as usize];
+    let turnover = b.turnover[security as usize];
+    let o = closing_order(b.codes, participant, side, security, lots);
+    let later = later_closing_no(&*money, &*pieces, row, turnover, b.count, b.codes, o);
+    if 0 < later {
+        return declined(b, phase, later);
+    }
+    let book = append(b, o, row, money, pieces);
+    Carried {
+        answer: Answer::Done(book.codes, book.filled, book.left, book.trades),
+        phase,
+        book,
     }
 }
 
-pub fn end_session(s: State, trades: &mut [u64]) -> Outcome
-    requires { ⌜ sound (view s) ≡ true ⌝ }
-    ensures { λ r. ⌜ Does s (now (trades .entry)) endSession r (now (trades .exit)) ⌝ }
+// Closing orders trade, the rest come off, the day is closed.
+pub fn end_session(
+    b: OrderBook,
+    rules: Rules,
+    phase: Phase,
+    money: &mut [u64; 512],
+    pieces: &mut [u64; 512],
+    trades: &mut [u64],
+) -> Carried
+    requires { ⌜ Ready rules phase (now money) (now pieces) b ⌝ }
+    ensures { λ r. ⌜ Carries rules phase (now (money .entry)) (now (pieces .entry)) b (now (trades .entry)) endSession (now (money .exit)) (now (pieces .exit)) (now (trades .exit)) r ⌝ }
 {
     if trades.len() < LENT_AT_LEAST {
-        return refused(s, 2);
+        return declined(b, phase, 2);
     }
-    let phase = s.phase;
     if !is_closing(phase) {
-        return refused(s, 6);
+        return declined(b, phase, 6);
     }
-    let paired = all_paired(s, trades);
-    let state = paired.state;
-    Outcome {
-        answer: Answer::Done(0, paired.lots, 0, paired.trades),
-        state: all_left(state, Phase::Closed),
+    let table = rules.table;
+    let book = end_pairing(b, rules.securities, table, money, pieces, trades);
+    Carried {
+        answer: Answer::Done(0, book.filled, 0, book.trades),
+        phase: Phase::Closed,
+        book,
     }
 }

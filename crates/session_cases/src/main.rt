@@ -9,11 +9,11 @@ use engine::increase_money;
 use engine::increase_pieces;
 use engine::opening;
 use engine::start_closing;
-use market::Member;
 use market::Outcome;
 use market::Security;
 use market::Side;
 use market::State;
+use market::Ticket;
 use market::TimeInForce;
 use show::after;
 
@@ -55,10 +55,10 @@ fn closing() -> State {
 }
 
 fn positions(s: State) {
-    show::position(b"money of 0", s.money[0]);
-    show::position(b"money of 1", s.money[16]);
-    show::position(b"pieces of 0", s.pieces[0]);
-    show::position(b"pieces of 1", s.pieces[16]);
+    show::money(b"money of 0", s, 0);
+    show::money(b"money of 1", s, 16);
+    show::pieces(b"pieces of 0", s, 0);
+    show::pieces(b"pieces of 1", s, 16);
 }
 
 fn start() {
@@ -74,7 +74,7 @@ fn start() {
         b"an order while closing: 6",
         order(s, 0, Side::Buy, 100, 1, TimeInForce::Kept),
     );
-    let member = Member {
+    let member = Ticket {
         side: Side::Buy,
         security: 0,
         price: 100,
@@ -131,9 +131,9 @@ fn more_entries() {
         b"a closing order",
         enter_closing_order(closing(), 0, Side::Buy, 0, 1),
     );
-    show::position(b"its need at 96 is blocked", s.money[0]);
+    show::money(b"its need at 96 is blocked", s, 0);
     let s = after(b"is cancelled", cancel(s, 0, 4));
-    show::position(b"and freed", s.money[0]);
+    show::money(b"and freed", s, 0);
 }
 
 // "Closing buys 3 and 4, sell 5: trades 3 and 2."
@@ -194,13 +194,13 @@ fn unsound() {
 
 // A group whose first member trades and whose second finds nothing.
 fn failing(s: State) -> Outcome {
-    let first = Member {
+    let first = Ticket {
         side: Side::Buy,
         security: 0,
         price: 105,
         lots: 1,
     };
-    let second = Member {
+    let second = Ticket {
         side: Side::Buy,
         security: 0,
         price: 50,
@@ -215,7 +215,7 @@ fn failing(s: State) -> Outcome {
 // The five places that free money, one after another; then all of it is reserved, and not a unit more.
 fn freed() {
     let s = traded();
-    show::position(b"a better price was freed at the trade", s.money[0]);
+    show::money(b"a better price was freed at the trade", s, 0);
     let s = after(
         b"an unfilled part is dropped",
         order(s, 0, Side::Buy, 90, 10, TimeInForce::ImmediateOrCancel),
@@ -231,7 +231,7 @@ fn freed() {
     );
     let s = after(b"a group fails: 15, place 2", failing(s));
     let s = after(b"closing starts", start_closing(s));
-    show::position(b"all is free", s.money[0]);
+    show::money(b"all is free", s, 0);
     last_unit(s);
 }
 

@@ -1,8 +1,7 @@
-// Printing for the programs that run cases: a label, then an answer or a position.
+// For the programs that run cases: printing of a label, then an answer or a position; and states made by hand.
 use libc::STDOUT_FILENO;
 use market::Answer;
 use market::Outcome;
-use market::Position;
 use market::State;
 
 fn number(x: u64) {
@@ -50,11 +49,45 @@ pub fn after(label: &[u8], o: Outcome) -> State {
 }
 
 // Free and blocked.
-pub fn position(label: &[u8], p: Position) {
+fn position(label: &[u8], free: u64, blocked: u64) {
     io::write_all(STDOUT_FILENO, label);
-    number(p.free);
-    number(p.blocked);
+    number(free);
+    number(blocked);
     end_line();
+}
+
+// The money at participant * 16 + currency.
+pub fn money(label: &[u8], s: State, place: usize) {
+    if place < 256 {
+        position(label, s.money[2 * place], s.money[2 * place + 1]);
+    }
+}
+
+// The pieces at participant * 16 + security.
+pub fn pieces(label: &[u8], s: State, place: usize) {
+    if place < 256 {
+        position(label, s.pieces[2 * place], s.pieces[2 * place + 1]);
+    }
+}
+
+// The state with this money at participant * 16 + currency.
+pub fn with_money(s: State, place: usize, free: u64, blocked: u64) -> State {
+    let mut t = s;
+    if place < 256 {
+        t.money[2 * place] = free;
+        t.money[2 * place + 1] = blocked;
+    }
+    t
+}
+
+// The state with these pieces at participant * 16 + security.
+pub fn with_pieces(s: State, place: usize, free: u64, blocked: u64) -> State {
+    let mut t = s;
+    if place < 256 {
+        t.pieces[2 * place] = free;
+        t.pieces[2 * place + 1] = blocked;
+    }
+    t
 }
 
 // The trade whose numbers start at `first` of the list: buy code, sell code, buyer, seller, security, price, lots, sum.

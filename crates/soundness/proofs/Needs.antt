@@ -17,15 +17,18 @@ use Rattle.market.specs.declared.State.{State}
 use Rattle.market.specs.declared.Turnover.{Turnover}
 use Rattle.market.specs.Limits.{columns, maxLot, maxLots, maxPieces, maxPrice, places}
 use Rattle.market.specs.Tests.{_=?_, allBelow, sumOf}
-use Rattle.market.specs.Day.{Asset, Day, Money, Pieces, Rules, columnsOf, currencyOf, firstOrders, ifMoney, line}
-use Rattle.market.specs.Day.{noSecurity, orderAt, place, position, positions, totalLimit, view}
+use Rattle.market.specs.declared.Rules.{Rules}
+use Rattle.market.specs.Day.{Asset, Day, Money, Pieces, columnsOf, currencyOf, ifMoney, row}
+use Rattle.market.specs.View.{firstOrders}
+use Rattle.market.specs.Day.{noSecurity, orderAt, place, position, positions, totalLimit}
+use Rattle.market.specs.View.{view}
 use Rattle.market.specs.Sound.{blockedSound, needsAt, orderSound, totalsSound}
 use Rattle.market.specs.Needs.{blocks, columnOf, limitOf, need, needAt, ofAsset, only, piecesOf, sumFor}
 use Rattle.market.proofs.Amounts.{only-same}
 use Rattle.market.proofs.Lists.{same-all}
 use Rattle.market.proofs.Logic.{and-true, below-all, below-intro, both}
-use Rattle.soundness.specs.Parts.{Checked, HoldsNeeds, assetSound, blockedAt, columnSound, needPlace}
-use Rattle.soundness.specs.Parts.{needPlaceFor, waitingSound}
+use Rattle.soundness.specs.Parts.{Checked, HoldsNeeds, assetSound, coveredAt, columnSound, needPlace}
+use Rattle.soundness.specs.Parts.{lentDay, needPlaceFor, waitingSound}
 use Rattle.soundness.proofs.Loops.{same, waiting-at, waiting-end}
 use Rattle.soundness.proofs.Parts.{Reckonable, ordersOf}
 
@@ -40,7 +43,7 @@ blocks-top Buy l price lots a b c = mul-le-mul b (mul-le-mul c a)
 blocks-top Sell l price lots a b c = le-trans (mul-le-mul c a) (lit≤ tt)
 
 pub need-top : (r : Rules) (t : List Turnover) (o : Order) → Reckonable r t o → need r t o ≤ maxNeed
-need-top r t o f = blocks-top (o .side) (line r (o .security)) (limitOf t o) (o .lots) (f .lot) (f .price) (f .lots)
+need-top r t o f = blocks-top (o .side) (row r (o .security)) (limitOf t o) (o .lots) (f .lot) (f .price) (f .lots)
 
 -- amounts at one place
 only-apart : (i j a : ℕ) → (i ≡ j → ⊥) → only i j a ≡ 0
@@ -154,7 +157,7 @@ columns-same x d l h hp hc = same _ _ there back
     w : ℕ
     w = columnsOf x (d .rules)
 
-    needed : (p c : ℕ) → p < n → c < w → blockedAt (ifMoney x 0 places) (positions x d) l (place p c)
+    needed : (p c : ℕ) → p < n → c < w → coveredAt (ifMoney x 0 places) (positions x d) l (place p c)
         ≡ (position (positions x d) (place p c)) .blocked =? needsAt x d (place p c)
     needed p c i j = ap (λ (a : ℕ). (position (positions x d) (place p c)) .blocked =? a) (h x (place p c) (omega arith))
 
@@ -172,8 +175,8 @@ columns-same x d l h hp hc = same _ _ there back
         (below-intro n _ (λ p i. needed p c i j ∙ below-all w _ (below-all n _ (a .0) p i) c j))
         (below-all w _ (a .1) c j))
 
--- what an order needs is read from its line, and not from how many currencies there are
-column-same : (side : Side) (r q : Rules) (s : ℕ) → line r s ≡ line q s → columnOf side r s ≡ columnOf side q s
+-- what an order needs is read from its row, and not from how many currencies there are
+column-same : (side : Side) (r q : Rules) (s : ℕ) → row r s ≡ row q s → columnOf side r s ≡ columnOf side q s
 column-same Buy r q s e = ap (λ (l : Security). l .currency) e
 column-same Sell r q s e = refl
 
@@ -181,7 +184,7 @@ need-same : (x : Asset) (r q : Rules) (t : List Turnover) (j : ℕ) (o : Order) 
     → needAt x r t j o ≡ needAt x q t j o
 unfolding needAt
 need-same x r q t j o e =
-    let same : line r (o .security) ≡ line q (o .security) = ap (λ (l : List Security). getD l (o .security) noSecurity) e in
+    let same : row r (o .security) ≡ row q (o .security) = ap (λ (l : List Security). getD l (o .security) noSecurity) e in
     rw (column-same (o .side) r q (o .security) same, same)
 
 needs-same : (x : Asset) (r q : Rules) (t : List Turnover) (j : ℕ) (w : List Order) → r .table ≡ q .table
@@ -189,11 +192,11 @@ needs-same : (x : Asset) (r q : Rules) (t : List Turnover) (j : ℕ) (w : List O
 needs-same x r q t j [] e = refl
 needs-same x r q t j (o ∷ w) e = rw (need-same x r q t j o e, needs-same x r q t j w e)
 
--- what was asked of the orders is known of the day
-pub orders-checked : (s : State) (answer : Bool) (needs : List ℕ) → Checked (ordersOf s) answer needs
-    → Checked (view s) answer needs
+-- what was asked of the orders is known of the day, whatever its positions
+pub orders-checked : (s : State) (money pieces : List ℕ) (answer : Bool) (needs : List ℕ)
+    → Checked (ordersOf s) answer needs → Checked (lentDay s money pieces) answer needs
 unfolding waitingSound orderSound
-orders-checked s answer needs k = record {
+orders-checked s money pieces answer needs k = record {
   right = k .right;
   added = λ e x j h. k .added e x j h
       ∙ needs-same x ((ordersOf s) .rules) ((view s) .rules) (s .turnover) j ((view s) .waiting) refl;

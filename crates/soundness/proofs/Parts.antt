@@ -17,15 +17,17 @@ use Rattle.market.specs.declared.Turnover.{Turnover}
 use Rattle.market.specs.Limits.{columns, maxCurrencies, maxLot, maxLots, maxParticipants, maxPrice, maxSecurities}
 use Rattle.market.specs.Limits.{maxStep, maxWaiting}
 use Rattle.market.specs.Tests.{_and_, allOf, known}
-use Rattle.market.specs.Day.{Day, Money, Pieces, Rules, currencyOf, line, turnoverAt, view}
+use Rattle.market.specs.declared.Rules.{Rules}
+use Rattle.market.specs.Day.{Day, Money, Pieces, currencyOf, row, turnoverAt}
+use Rattle.market.specs.View.{view}
 use Rattle.market.specs.Codes.{given, numbered, rising}
 use Rattle.market.specs.Needs.{closingPrice, limitOf, priceOr}
-use Rattle.market.specs.Sound.{countsSound, kindSound, lineSound, lotsSound, orderSound, priceSound, rulesSound}
+use Rattle.market.specs.Sound.{countsSound, kindSound, rowSound, lotsSound, orderSound, priceSound, rulesSound}
 use Rattle.market.specs.Sound.{sound, turnoverSound}
 use Rattle.market.proofs.Logic.{and-true, below-all, below-intro, both, never, within-high, within-low}
 use Rattle.market.proofs.Known.{RulesOk, rules-ok}
 use Rattle.market.proofs.Turnovers.{turnover-ok}
-use Rattle.soundness.specs.Parts.{Checked, HoldsNeeds, assetSound, orderly, ordersDay, waitingSound}
+use Rattle.soundness.specs.Parts.{Checked, HoldsNeeds, assetSound, lentDay, orderly, ordersDay, waitingSound}
 use Rattle.soundness.proofs.Loops.{and-none, same}
 
 pub record Orderly (d : Day) : Type 0 where
@@ -106,10 +108,10 @@ module _ (d : Day) (needs : List ℕ) where
   orders-hold e r h = record { right = rw (sym e) (sym r); added = λ t. h }
 
 -- where a day is orderly, so it is as far as its orders are asked about
-line-wide : (currencies : ℕ) (l : Security) → currencies ≤ maxCurrencies → lineSound currencies l ≡ true
-    → lineSound maxCurrencies l ≡ true
-unfolding lineSound
-line-wide currencies l h e =
+row-wide : (currencies : ℕ) (l : Security) → currencies ≤ maxCurrencies → rowSound currencies l ≡ true
+    → rowSound maxCurrencies l ≡ true
+unfolding rowSound
+row-wide currencies l h e =
     let a = and-true e in
     both (lt-ltb (l .currency) maxCurrencies (omega (arith, ltb-true (l .currency) currencies (a .0)))) (a .1)
 
@@ -126,8 +128,8 @@ orders-orderly s e =
     let table = and-true (counts .1) in
     let n = and-true (counts .0) in
     both (a .0) (both (both (n .0) (both (both refl refl) ((and-true (n .1)) .1)))
-    (both (below-intro (s .securities) _ (λ i h. line-wide (s .currencies) (line ((view s) .rules) i) (y .rules .currencies)
-    (below-all (s .securities) (λ j. lineSound (s .currencies) (line ((view s) .rules) j)) (table .0) i h)))
+    (both (below-intro (s .securities) _ (λ i h. row-wide (s .currencies) (row ((view s) .rules) i) (y .rules .currencies)
+    (below-all (s .securities) (λ j. rowSound (s .currencies) (row ((view s) .rules) j)) (table .0) i h)))
     (table .1)))
 
 -- an order of an unknown security, and what is left to ask of one that is known
@@ -137,16 +139,16 @@ unknown-security d o h = rw (le-ltb _ _ h) (and-none (known (o .participant) (d 
 
 pub known-security : (d : Day) (o : Order) → o .security < d .rules .securities
     → orderSound d o ≡ known (o .participant) (d .rules .participants) and lotsSound (o .lots)
-    and kindSound (d .phase) (line (d .rules) (o .security)) (turnoverAt (d .turnover) (o .security)) (o .kind)
+    and kindSound (d .phase) (row (d .rules) (o .security)) (turnoverAt (d .turnover) (o .security)) (o .kind)
 unfolding orderSound _and_
 known-security d o h = rw (lt-ltb _ _ h)
 
 -- a price step above 0, by which a price can be divided
-pub line-step : (r : Rules) (s : ℕ) → rulesSound r ≡ true → s < r .securities → 0 < (line r s) .step
-unfolding rulesSound lineSound
-line-step r s e h =
-    let a = below-all (r .securities) (λ s. lineSound (r .currencies) (line r s)) ((and-true e) .1) s h in
-    within-low 1 maxStep ((line r s) .step) ((and-true ((and-true a) .1)) .1)
+pub row-step : (r : Rules) (s : ℕ) → rulesSound r ≡ true → s < r .securities → 0 < (row r s) .step
+unfolding rulesSound rowSound
+row-step r s e h =
+    let a = below-all (r .securities) (λ s. rowSound (r .currencies) (row r s)) ((and-true e) .1) s h in
+    within-low 1 maxStep ((row r s) .step) ((and-true ((and-true a) .1)) .1)
 
 -- a waiting order whose need can be reckoned
 pub record Reckonable (r : Rules) (t : List Turnover) (o : Order) : Type 0 where
@@ -154,7 +156,7 @@ pub record Reckonable (r : Rules) (t : List Turnover) (o : Order) : Type 0 where
   pub security : o .security < maxSecurities
   pub currency : currencyOf r (o .security) < columns
   pub lots : o .lots ≤ maxLots
-  pub lot : (line r (o .security)) .lot ≤ maxLot
+  pub lot : (row r (o .security)) .lot ≤ maxLot
   pub price : limitOf t o ≤ maxPrice
 
 closing-limit : (codes : ℕ) (t : Turnover) → turnoverSound codes t ≡ true → closingPrice t ≤ maxPrice
@@ -183,6 +185,11 @@ reckonable d o y e =
       currency = omega (arith, y .rules .currencies);
       lots = within-high 1 maxLots (o .lots) (c .0);
       lot = y .rules .lot s security;
-      price = price-limit (d .phase) (line (d .rules) s) (given d) (turnoverAt (d .turnover) s) (o .kind)
+      price = price-limit (d .phase) (row (d .rules) s) (given d) (turnoverAt (d .turnover) s) (o .kind)
           (y .turnovers s security) (c .1);
     }
+
+-- positions in place of a state's own change nothing of what makes it orderly
+pub orderly-lent : (s : State) (money pieces : List ℕ) → orderly (lentDay s money pieces) ≡ orderly (view s)
+unfolding orderly
+orderly-lent s money pieces = refl

@@ -6,24 +6,31 @@ use mathlib.Core.Bool.{Bool, true}
 use lib.ListN.{getD, length}
 use Rattle.market.specs.declared.Order.{Order}
 use Rattle.market.specs.declared.Phase.{Phase}
-use Rattle.market.specs.declared.Position.{Position}
 use Rattle.market.specs.declared.Security.{Security}
 use Rattle.market.specs.declared.Side.{Side}
 use Rattle.market.specs.declared.Side.the-variants.{Buy, Sell}
+use Rattle.market.specs.declared.State.{State}
 use Rattle.market.specs.declared.Turnover.{Turnover}
 use Rattle.market.specs.Limits.{maxCurrencies, maxWaiting, places}
 use Rattle.market.specs.Tests.{_=?_, _and_, _≤?_, allBelow, allOf}
-use Rattle.market.specs.Day.{Asset, Day, Money, Pieces, firstOrders, ifMoney, line, place, position, turnoverAt}
+use Rattle.market.specs.Day.{Asset, Day, Money, Pieces, ifMoney, row, place, position, turnoverAt}
+use Rattle.market.specs.View.{firstOrders}
+use Rattle.market.specs.Day.{withMoney, withPieces}
+use Rattle.market.specs.View.{view}
 use Rattle.market.specs.Codes.{codesSound, given, rising}
 use Rattle.market.specs.Positions.{totalAt}
-use Rattle.market.specs.Sound.{blockedSound, countsSound, lineSound, needsAt, orderSound, totalsSound, turnoverSound}
+use Rattle.market.specs.Sound.{blockedSound, countsSound, rowSound, needsAt, orderSound, totalsSound, turnoverSound}
+
+-- the day of a state with these positions in place of its own
+abbrev pub lentDay : State → List ℕ → List ℕ → Day
+lentDay s money pieces = withPieces (withMoney (view s) money) pieces
 
 -- counts, table, codes, Q and T: each part is asked where the ones before it hold
 unfoldable pub orderly : Day → Bool
 orderly d =
     length (d .waiting) ≤? maxWaiting
     and countsSound (d .rules .participants) (d .rules .currencies) (d .rules .securities)
-    and allBelow (d .rules .securities) (λ s. lineSound (d .rules .currencies) (line (d .rules) s))
+    and allBelow (d .rules .securities) (λ s. rowSound (d .rules .currencies) (row (d .rules) s))
     and codesSound d
     and allBelow (d .rules .securities) (λ s. turnoverSound (given d) (turnoverAt (d .turnover) s))
 
@@ -36,13 +43,13 @@ unfoldable pub assetSound : Asset → Day → Bool
 assetSound x d = blockedSound x d and totalsSound x d
 
 -- at place j what is blocked is what is needed; needs stand from place `first` of their list on
-abbrev pub blockedAt : ℕ → List Position → List ℕ → ℕ → Bool
-blockedAt first l needs j = (position l j) .blocked =? getD needs (first + j) 0
+abbrev pub coveredAt : ℕ → List ℕ → List ℕ → ℕ → Bool
+coveredAt first l needs j = (position l j) .blocked =? getD needs (first + j) 0
 
 -- one column of positions: what is blocked, and the total
-unfoldable pub columnSound : ℕ → ℕ → ℕ → List Position → List ℕ → ℕ → Bool
+unfoldable pub columnSound : ℕ → ℕ → ℕ → List ℕ → List ℕ → ℕ → Bool
 columnSound participants limit first l needs c =
-    allBelow participants (λ p. blockedAt first l needs (place p c)) and totalAt participants l c ≤? limit
+    allBelow participants (λ p. coveredAt first l needs (place p c)) and totalAt participants l c ≤? limit
 
 -- needs stand in one list: money at its place, pieces 256 places further on
 abbrev pub needPlace : Asset → ℕ → ℕ

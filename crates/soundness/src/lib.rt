@@ -18,7 +18,6 @@ use market::MONEY_LIMIT;
 use market::Order;
 use market::PIECES_LIMIT;
 use market::Phase;
-use market::Position;
 use market::Security;
 use market::Side;
 use market::State;
@@ -31,9 +30,10 @@ ghost use Prim.Native.Nat.{_+_, _<_, _≤_};
 ghost use lib.ListN.{getD, replicate};
 ghost use Rattle.market.specs.Limits.{columns as allColumns, maxCodes, maxParticipants, maxSecurities, places};
 ghost use Rattle.market.specs.Tests.{_and_, allBelow, known};
-ghost use Rattle.market.specs.Day.{noSecurity, turnoverAt, view};
-ghost use Rattle.market.specs.Sound.{countsSound, kindSound, lineSound, lotsSound, sound, turnoverSound};
-ghost use Rattle.soundness.specs.Parts.{Checked, columnSound, needPlaceFor, orderly, ordersDay};
+ghost use Rattle.market.specs.Day.{noSecurity, turnoverAt};
+ghost use Rattle.market.specs.View.{view};
+ghost use Rattle.market.specs.Sound.{countsSound, kindSound, rowSound, lotsSound, sound, turnoverSound};
+ghost use Rattle.soundness.specs.Parts.{Checked, columnSound, lentDay, needPlaceFor, orderly, ordersDay};
 
 // Needs of pieces stand this many places behind those of money.
 const PLACES: usize = 256;
@@ -50,27 +50,27 @@ pub fn counts_sound(participants: u64, currencies: u64, securities: u64) -> bool
     within(1, MAX_SECURITIES, securities)
 }
 
-pub fn line_sound(currencies: u64, line: Security) -> bool
-    ensures { λ r. ⌜ r ≡ lineSound currencies line ⌝ }
+pub fn row_sound(currencies: u64, row: Security) -> bool
+    ensures { λ r. ⌜ r ≡ rowSound currencies row ⌝ }
 {
-    if currencies <= line.currency {
+    if currencies <= row.currency {
         return false;
     }
-    if !within(1, MAX_LOT, line.lot) {
+    if !within(1, MAX_LOT, row.lot) {
         return false;
     }
-    within(1, MAX_STEP, line.step)
+    within(1, MAX_STEP, row.step)
 }
 
 fn table_sound(currencies: u64, securities: u64, table: [Security; 16]) -> bool
     requires { ⌜ securities ≤ maxSecurities ⌝ }
-    ensures { λ r. ⌜ r ≡ allBelow securities (λ s. lineSound currencies (getD table s noSecurity)) ⌝ }
+    ensures { λ r. ⌜ r ≡ allBelow securities (λ s. rowSound currencies (getD table s noSecurity)) ⌝ }
 {
     let lines = securities as usize;
     let mut i: usize = 0;
     while i < lines {
-        let line = table[i];
-        if !line_sound(currencies, line) {
+        let row = table[i];
+        if !row_sound(currencies, row) {
             return false;
         }
         i += 1;
@@ -108,16 +108,16 @@ fn turnovers_sound(codes: u64, securities: u64, turnovers: [Turnover; 16]) -> bo
 }
 
 // May an order of this kind wait in this phase, at its price, in a security so traded?
-fn kind_sound(phase: Phase, line: Security, turnover: Turnover, kind: Kind) -> bool
-    requires { ⌜ 0 < line .step ⌝ }
-    ensures { λ r. ⌜ r ≡ kindSound phase line turnover kind ⌝ }
+fn kind_sound(phase: Phase, row: Security, turnover: Turnover, kind: Kind) -> bool
+    requires { ⌜ 0 < row .step ⌝ }
+    ensures { λ r. ⌜ r ≡ kindSound phase row turnover kind ⌝ }
 {
     match kind {
         Kind::Kept(price) => {
             if !is_open(phase) {
                 return false;
             }
-            price_sound(line, price)
+            price_sound(row, price)
         }
         Kind::Closing => {
             if !is_closing(phase) {
@@ -132,13 +132,13 @@ fn kind_sound(phase: Phase, line: Security, turnover: Turnover, kind: Kind) -> b
 fn order_sound(
     participants: u64,
     phase: Phase,
-    line: Security,
+    row: Security,
     turnover: Turnover,
     order: Order,
 ) -> bool
-    requires { ⌜ 0 < line .step ⌝ }
+    requires { ⌜ 0 < row .step ⌝ }
     ensures { λ r. ⌜ r ≡ known (order .participant) participants and lotsSound (order .lots)
-        and kindSound phase line turnover (order .kind) ⌝ }
+        and kindSound phase row turnover (order .kind) ⌝ }
 {
     if participants <= order.participant {
         return false;
@@ -147,7 +147,7 @@ fn order_sound(
         return false;
     }
     let kind = order.kind;
-    kind_sound(phase, line, turnover, kind)
+    kind_sound(phase, row, turnover, kind)
 }
 
 // Where an order's need is added: a buy's money, or a sell's pieces.
@@ -188,14 +188,14 @@ fn orders_sound(
             return false;
         }
         let security = order.security as usize;
-        let line = table[security];
+        let row = table[security];
         let turnover = turnovers[security];
-        if !order_sound(participants, phase, line, turnover, order) {
+        if !order_sound(participants, phase, row, turnover, order) {
             return false;
         }
         let side = order.side;
-        let at = need_place(side, order.participant, line.currency, order.security);
-        needs[at] = needs[at] + need_of(line, turnover, order);
+        let at = need_place(side, order.participant, row.currency, order.security);
+        needs[at] = needs[at] + need_of(row, turnover, order);
         last = order.code;
         i += 1;
     }
@@ -203,34 +203,35 @@ fn orders_sound(
 }
 
 // Is what is blocked in each column what is needed, and the column's total within the limit? No sum is made above it.
-// Column by column in one loop: an array handed to a function for each column would be copied each time.
-fn positions_sound(
+// Column by column in one loop.
+fn positions_sound<'a>(
     participants: u64,
     columns: u64,
     limit: u64,
     first: usize,
-    positions: [Position; 256],
-    needs: &[u64; 512],
+    positions: &'a [u64; 512],
+    needs: &'a [u64; 512],
 ) -> bool
     requires { ⌜ (0 < participants) × (participants ≤ maxParticipants) × (columns ≤ allColumns) × (first ≤ places) ⌝ }
-    ensures { λ r. ⌜ r ≡ allBelow columns (columnSound participants limit first positions (now (needs .entry))) ⌝ }
+    ensures { λ r. ⌜ r ≡ allBelow columns (columnSound participants limit first (now (positions .entry)) (now (needs .entry))) ⌝ }
 {
     let mut total: u64 = 0;
     let mut p: u64 = 0;
     let mut column: u64 = 0;
     while column < columns {
         let at = place_of(p, column);
-        let position = positions[at];
-        if position.blocked != needs[first + at] {
+        let free = positions[2 * at];
+        let blocked = positions[2 * at + 1];
+        if blocked != needs[first + at] {
             return false;
         }
-        if limit - total < position.free {
+        if limit - total < free {
             return false;
         }
-        if limit - total - position.free < position.blocked {
+        if limit - total - free < blocked {
             return false;
         }
-        total = total + position.free + position.blocked;
+        total = total + free + blocked;
         p += 1;
         if p < participants {
             continue;
@@ -264,15 +265,15 @@ fn is_orderly(s: State) -> bool
     turnovers_sound(s.codes, s.securities, turnovers)
 }
 
-pub fn is_sound(s: State) -> bool
-    ensures { λ r. ⌜ r ≡ sound (view s) ⌝ }
+// Is the state sound with these positions in place of its own? A call that works on a copy of the positions lends it, and
+// the state, of which neither a part is lent nor an element read here, is not copied.
+pub fn lent_sound<'a>(s: State, money: &'a [u64; 512], pieces: &'a [u64; 512]) -> bool
+    ensures { λ r. ⌜ r ≡ sound (lentDay s (now (money .entry)) (now (pieces .entry))) ⌝ }
 {
     let phase = s.phase;
     let table = s.table;
     let turnovers = s.turnover;
     let orders = s.orders;
-    let money = s.money;
-    let pieces = s.pieces;
     let mut needs = [0u64; 512];
     if !is_orderly(s) {
         return false;

@@ -1,45 +1,60 @@
--- What an order claims of the positions, and what the day must allow for it.
+-- What an order claims of lent positions: l and t are the row and the turnover of its security, m the money, k the
+-- pieces.
 use Prim.Native.Nat.{ℕ, _≤_, _<_}
-use mathlib.Core.Path.{_≡_}
-use mathlib.Core.Bool.{true}
-use lib.ListN.{length}
+use mathlib.Core.List.{List}
+use mathlib.Core.Bool.{Bool}
 use Rattle.market.specs.declared.Order.{Order}
-use Rattle.market.specs.declared.Position.{Position}
-use Rattle.market.specs.Limits.{columns, maxLot, maxLots, maxPrice, maxWaiting, moneyLimit}
-use Rattle.market.specs.Day.{Day, currencyOf, line, orderAt, position, positions}
-use Rattle.market.specs.Codes.{codeLeft}
-use Rattle.market.specs.Needs.{assetOf, limitOf, need, placeFor}
-use Rattle.market.specs.Positions.{total}
-use Rattle.market.specs.Questions.{covered}
+use Rattle.market.specs.declared.Security.{Security}
+use Rattle.market.specs.declared.Side.{Side}
+use Rattle.market.specs.declared.Side.the-variants.{Buy, Sell}
+use Rattle.market.specs.declared.Turnover.{Turnover}
+use Rattle.market.specs.Limits.{columns, maxLot, maxLots, maxPrice, moneyLimit}
+use Rattle.market.specs.Tests.{_≤?_}
+use Rattle.market.specs.Day.{Position, ifMoney, place, position}
+use Rattle.market.specs.Needs.{assetOf, closingPrice, priceOr}
+use Rattle.market.specs.Positions.{change, total}
+use Rattle.matching.specs.Execution.{needWith}
 
--- the position where an order blocks
-abbrev pub positionFor : Day → Order → Position
-positionFor d o = position (positions (assetOf (o .side)) d) (placeFor (d .rules) o)
+-- the column where an order of this side blocks
+abbrev pub columnBy : Side → Security → ℕ → ℕ
+columnBy Buy l s = l .currency
+columnBy Sell l s = s
+
+-- the place where it blocks, and the position there
+abbrev pub placeBy : Security → Order → ℕ
+placeBy l o = place (o .participant) (columnBy (o .side) l (o .security))
+
+abbrev pub positionBy : Security → Order → List ℕ → List ℕ → Position
+positionBy l o m k = position (ifMoney (assetOf (o .side)) m k) (placeBy l o)
+
+-- question 14
+abbrev pub coveredBy : Security → Turnover → Order → List ℕ → List ℕ → Bool
+coveredBy l t o m k = needWith l t o ≤? (positionBy l o m k) .free
+
+-- the money, and the pieces, with f of the order's need where it blocks
+abbrev pub moneyWith : (ℕ → Position → Position) → Security → Turnover → Order → List ℕ → List ℕ
+moneyWith f l t o m = ifMoney (assetOf (o .side)) (change m (placeBy l o) (f (needWith l t o))) m
+
+abbrev pub piecesWith : (ℕ → Position → Position) → Security → Turnover → Order → List ℕ → List ℕ
+piecesWith f l t o k = ifMoney (assetOf (o .side)) k (change k (placeBy l o) (f (needWith l t o)))
 
 -- its need can be reckoned
-pub record Reckonable (d : Day) (o : Order) : Type 0 where
+pub record Reckonable (l : Security) (t : Turnover) (o : Order) : Type 0 where
   pub participant : o .participant < columns
   pub security : o .security < columns
-  pub currency : currencyOf (d .rules) (o .security) < columns
-  pub lot : (line (d .rules) (o .security)) .lot ≤ maxLot
-  pub limit : limitOf (d .turnover) o ≤ maxPrice
+  pub currency : l .currency < columns
+  pub lot : l .lot ≤ maxLot
+  pub limit : priceOr (closingPrice t) (o .kind) ≤ maxPrice
   pub top : o .lots ≤ maxLots
 
--- and blocked, and a code is left
-pub record Admissible (d : Day) (o : Order) : Type 0 where
-  pub reckonable : Reckonable d o
-  pub covers : covered d o ≡ true
-  pub code : codeLeft d (o .participant) ≡ true
-  pub within : total (positionFor d o) ≤ moneyLimit
+-- and blocked
+pub record Blockable (l : Security) (t : Turnover) (o : Order) (m k : List ℕ) : Type 0 where
+  pub reckonable : Reckonable l t o
+  pub covered : needWith l t o ≤ (positionBy l o m k) .free
+  pub within : total (positionBy l o m k) ≤ moneyLimit
 
 -- and freed
-pub record Freeable (d : Day) (o : Order) : Type 0 where
-  pub reckonable : Reckonable d o
-  pub blocked : need (d .rules) (d .turnover) o ≤ (positionFor d o) .blocked
-  pub within : total (positionFor d o) ≤ moneyLimit
-
--- an order waits at place i and can leave
-pub record Leaves (d : Day) (i : ℕ) : Type 0 where
-  pub waits : i < length (d .waiting)
-  pub room : length (d .waiting) ≤ maxWaiting
-  pub freeable : Freeable d (orderAt (d .waiting) i)
+pub record Freeable (l : Security) (t : Turnover) (o : Order) (m k : List ℕ) : Type 0 where
+  pub reckonable : Reckonable l t o
+  pub blocked : needWith l t o ≤ (positionBy l o m k) .blocked
+  pub within : total (positionBy l o m k) ≤ moneyLimit

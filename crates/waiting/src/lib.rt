@@ -1,156 +1,103 @@
-// What several calls do with an order that waits or enters: its need is blocked or freed, it is appended or it leaves.
+// What several calls do with an order that waits or enters: its need is blocked or freed, and it leaves. Positions are
+// lent, the order book goes by value; `row` and `turnover` are those of the order's security.
 use amounts::need_of;
 use amounts::place_of;
 use market::Order;
-use market::Position;
+use market::OrderBook;
+use market::Security;
 use market::Side;
-use market::State;
-use matching::removed;
+use market::Turnover;
+use positions::block;
+use positions::free_of;
+use positions::release;
 ghost use mathlib.Core.Path.{_≡_};
-ghost use mathlib.Core.List.{[], _∷_, _++_};
-ghost use Prim.Native.Nat.{_+_, _≤_, _<_};
-ghost use Rattle.market.specs.Limits.{maxWaiting, moneyLimit};
-ghost use Rattle.market.specs.Tests.{_≤?_};
-ghost use Rattle.market.specs.Day.{view, withWaiting};
-ghost use Rattle.market.specs.Positions.{block, release, releaseFor};
-ghost use Rattle.market.specs.Waiting.{leave};
-ghost use Rattle.market.specs.Questions.{covered};
-ghost use Rattle.market.specs.Entry.{admitted as dayAdmitted};
-ghost use Rattle.waiting.specs.Claims.{Admissible, Freeable, Leaves, Reckonable};
+ghost use Rattle.market.specs.Positions.{block as blocking, release as releasing};
+ghost use Rattle.waiting.specs.Leaving.{Leavable, Leaves};
+ghost use Rattle.waiting.specs.Claims.{Blockable, Freeable, Reckonable, coveredBy, moneyWith, piecesWith};
 
-// Equality suffices.
-fn suffices(p: Position, need: u64) -> bool
-    ensures { λ r. ⌜ r ≡ (need ≤? p .free) ⌝ }
+// Question 14. Equality suffices.
+pub fn covers<'a>(
+    money: &'a [u64; 512],
+    pieces: &'a [u64; 512],
+    row: Security,
+    turnover: Turnover,
+    o: Order,
+) -> bool
+    requires { ⌜ Reckonable row turnover o ⌝ }
+    ensures { λ r. ⌜ r ≡ coveredBy row turnover o (now (money .entry)) (now (pieces .entry)) ⌝ }
 {
-    need <= p.free
-}
-
-// A need moves from free to blocked.
-fn with_blocked(p: Position, need: u64) -> Position
-    requires { ⌜ (need ≤ p .free) × (p .blocked + need ≤ moneyLimit) ⌝ }
-    ensures { λ r. ⌜ r ≡ block need p ⌝ }
-{
-    Position {
-        free: p.free - need,
-        blocked: p.blocked + need,
-    }
-}
-
-// And back to free.
-fn with_freed(p: Position, need: u64) -> Position
-    requires { ⌜ (need ≤ p .blocked) × (p .free + need ≤ moneyLimit) ⌝ }
-    ensures { λ r. ⌜ r ≡ release need p ⌝ }
-{
-    Position {
-        free: p.free + need,
-        blocked: p.blocked - need,
-    }
-}
-
-// Question 14. It copies the lists that it reads: an index into the state itself would copy all of it.
-pub fn covers(s: State, o: Order) -> bool
-    requires { ⌜ Reckonable (view s) o ⌝ }
-    ensures { λ r. ⌜ r ≡ covered (view s) o ⌝ }
-{
-    let security = o.security as usize;
-    let table = s.table;
-    let line = table[security];
-    let turnovers = s.turnover;
-    let turnover = turnovers[security];
-    let need = need_of(line, turnover, o);
+    let need = need_of(row, turnover, o);
     let side = o.side;
     match side {
-        Side::Buy => {
-            let at = place_of(o.participant, line.currency);
-            let money = s.money;
-            let position = money[at];
-            suffices(position, need)
-        }
-        Side::Sell => {
-            let at = place_of(o.participant, o.security);
-            let pieces = s.pieces;
-            let position = pieces[at];
-            suffices(position, need)
-        }
+        Side::Buy => need <= free_of(money, place_of(o.participant, row.currency)),
+        Side::Sell => need <= free_of(pieces, place_of(o.participant, o.security)),
     }
 }
 
-// The order has the next code, and its need is blocked. One local is read and written in place, here and in `released`:
-// a second one would be a copy of the state.
-pub fn admitted(s: State, o: Order) -> State
-    requires { ⌜ Admissible (view s) o ⌝ }
-    ensures { λ r. ⌜ view r ≡ dayAdmitted (view s) o ⌝ }
+// What the order needs is blocked.
+pub fn block_need(
+    money: &mut [u64; 512],
+    pieces: &mut [u64; 512],
+    row: Security,
+    turnover: Turnover,
+    o: Order,
+)
+    requires { ⌜ Blockable row turnover o (now money) (now pieces) ⌝ }
+    ensures { λ _. ⌜ now (money .exit) ≡ moneyWith blocking row turnover o (now (money .entry)) ⌝ }
+    ensures { λ _. ⌜ now (pieces .exit) ≡ piecesWith blocking row turnover o (now (pieces .entry)) ⌝ }
 {
-    let mut next = s;
-    let security = o.security as usize;
-    let line = next.table[security];
-    let turnover = next.turnover[security];
-    let need = need_of(line, turnover, o);
-    next.codes = next.codes + 1;
+    let need = need_of(row, turnover, o);
     let side = o.side;
     match side {
-        Side::Buy => {
-            let at = place_of(o.participant, line.currency);
-            let old = next.money[at];
-            next.money[at] = with_blocked(old, need);
-        }
-        Side::Sell => {
-            let at = place_of(o.participant, o.security);
-            let old = next.pieces[at];
-            next.pieces[at] = with_blocked(old, need);
-        }
+        Side::Buy => block(money, place_of(o.participant, row.currency), need),
+        Side::Sell => block(pieces, place_of(o.participant, o.security), need),
     }
-    next
 }
 
-// The order's need is freed.
-pub fn released(s: State, o: Order) -> State
-    requires { ⌜ Freeable (view s) o ⌝ }
-    ensures { λ r. ⌜ view r ≡ releaseFor (view s) o ⌝ }
+// What the order needs is freed.
+pub fn free_need(
+    money: &mut [u64; 512],
+    pieces: &mut [u64; 512],
+    row: Security,
+    turnover: Turnover,
+    o: Order,
+)
+    requires { ⌜ Freeable row turnover o (now money) (now pieces) ⌝ }
+    ensures { λ _. ⌜ now (money .exit) ≡ moneyWith releasing row turnover o (now (money .entry)) ⌝ }
+    ensures { λ _. ⌜ now (pieces .exit) ≡ piecesWith releasing row turnover o (now (pieces .entry)) ⌝ }
 {
-    let mut next = s;
-    let security = o.security as usize;
-    let line = next.table[security];
-    let turnover = next.turnover[security];
-    let need = need_of(line, turnover, o);
+    let need = need_of(row, turnover, o);
     let side = o.side;
     match side {
-        Side::Buy => {
-            let at = place_of(o.participant, line.currency);
-            let old = next.money[at];
-            next.money[at] = with_freed(old, need);
-        }
-        Side::Sell => {
-            let at = place_of(o.participant, o.security);
-            let old = next.pieces[at];
-            next.pieces[at] = with_freed(old, need);
-        }
+        Side::Buy => release(money, place_of(o.participant, row.currency), need),
+        Side::Sell => release(pieces, place_of(o.participant, o.security), need),
     }
-    next
 }
 
-// The order at this place leaves, whatever the reason: its need is freed, and it gives its place up.
-pub fn left(s: State, at: usize) -> State
-    requires { ⌜ Leaves (view s) at ⌝ }
-    ensures { λ r. ⌜ view r ≡ leave (view s) at ⌝ }
+// The order at this place leaves, whatever the reason: its need is freed, and each later one moves a place forward.
+// `row` is that of the order's security.
+pub fn left(
+    b: OrderBook,
+    at: usize,
+    row: Security,
+    money: &mut [u64; 512],
+    pieces: &mut [u64; 512],
+) -> OrderBook
+    requires { ⌜ Leavable row b at (now money) (now pieces) ⌝ }
+    ensures { λ r. ⌜ Leaves row b at (now (money .entry)) (now (pieces .entry)) (now (money .exit)) (now (pieces .exit)) r ⌝ }
 {
-    let orders = s.orders;
-    let o = orders[at];
-    let others = removed(orders, s.count, at);
-    let mut next = released(s, o);
-    next.orders = others;
-    next.count = s.count - 1;
-    next
-}
-
-// The order waits behind all others.
-pub fn appended(s: State, o: Order) -> State
-    requires { ⌜ s .count < maxWaiting ⌝ }
-    ensures { λ r. ⌜ view r ≡ withWaiting (view s) ((view s) .waiting ++ (o ∷ [])) ⌝ }
-{
-    let count = s.count;
-    let mut next = s;
-    next.orders[count] = o;
-    next.count = count + 1;
-    next
+    let mut book = b;
+    let o = book.orders[at];
+    let security = o.security as usize;
+    let turnover = book.turnover[security];
+    free_need(money, pieces, row, turnover, o);
+    let last = book.count - 1;
+    let mut i = at;
+    while i < last {
+        let later = book.orders[i + 1];
+        book.orders[i] = later;
+        i += 1;
+    }
+    book.count = last;
+    book
 }

@@ -13,8 +13,7 @@ same-length c = search needs
 returns : tie.Need-returns
 returns c =
     let call = c .before .before in
-    let taken = call .before .before in
-    begins-long (taken .before .before .before .pre) (taken .if1 .taken) (call .too-long .ensures)
+    begins-long (call .before .before .if1 .taken) (call .too-long .ensures)
 
 heading-of-requires : tie.Need-heading-of-requires
 heading-of-requires c κs = search needs
@@ -32,9 +31,8 @@ returns-2 : tie.Need-returns-2
 returns-2 c =
     let put = c .before .before .before .before in
     let head = put .before .before .before in
-    let start = head .before .before .before .before in
-    begins-headed (start .pre) (head .before .if1 .left) (head .heading-of .ensures) (put .put-answer .ensures)
-    (c .is-done .result) (c .is-done .ensures)
+    begins-headed (head .before .if1 .left) (head .heading-of .ensures) (put .put-answer .ensures) (c .is-done .result)
+    (c .is-done .ensures)
 
 pub begin-spec : {M : Type 1} → statement M
 begin-spec =

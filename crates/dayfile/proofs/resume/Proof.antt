@@ -1,106 +1,91 @@
--- `dayfile::resume` meets its contract: a command after another, as long as the buffer has room.
-use Prim.Native.Nat.{_≤_}
+-- `dayfile::resume` meets its contract: the commands on the state's parts, which are joined again, and with room left the
+-- positions.
 use native.Mathlib.Omega.{arith}
-use mathlib.Core.Path.{_≡_, refl, sym, _∙_}
-use lib.ListN.{length}
-use Rattle.market.specs.Limits.{lentAtLeast}
-use Rattle.market.proofs.Logic.{never}
-use Rattle.amounts.proofs.Answers.{fails, holds}
-use Rattle.dayfile.specs.Run.{room, toGo}
-use Rattle.dayfile.proofs.Placing.{Onward, onward-ends, onward-next, onward-none}
+use borrow.Author.Needs.{needs}
+use Rattle.dayfile.proofs.Sized.{sized-run}
+use Rattle.dayfile.proofs.Resuming.{counts-known, fills-on, fills-over, starts}
 use Rattle.dayfile.proofs.resume.Statement.{statement}
 use Rattle.dayfile.proofs.resume.Tie as tie
 
-abbrev Inv-loop : tie.InvT-loop
-Inv-loop text out₀ trades₀ r₀ out trades r =
-    Onward text r₀ out₀ r out × (length trades ≡ lentAtLeast) × (room ≤ length out)
+rules-of-requires : tie.Need-rules-of-requires
+rules-of-requires c κs = search needs
 
-abbrev μ-loop : tie.MeasureT-loop
-μ-loop text out₀ trades₀ r₀ out trades r = toGo text r
+book-of-requires : tie.Need-book-of-requires
+book-of-requires c κs = search needs
 
-slice-aggregate-advance : tie.Need-slice-aggregate-advance Inv-loop μ-loop
-slice-aggregate-advance c = refl
+-- the parts of the run, and where it was given
+abbrev parts : tie.After-commands → tie.After-book-of
+parts k = k .before .before .before .before .before .before
 
-advance-requires : tie.Need-advance-requires Inv-loop μ-loop
-advance-requires c κs =
-    let b = c .before .before .before .before in
-    (b .pre .0, (b .pre .1 .0, (b .pre .1 .1, refl)))
+abbrev start : tie.After-book-of → tie.Start
+start b = b .before .before .before .before .before
 
-loop-holds : tie.Need-loop-holds Inv-loop μ-loop
-loop-holds c =
-    let k = c .before .before .before in
-    let h = k .advance .ensures in
-    let enough = k .before .before .before .before .before .pre .1 .1 in
-    let size = h .0 .size in
-    (onward-none (h .0), h .1, omega (arith, enough, size))
+commands-requires : tie.Need-commands-requires
+commands-requires c κs =
+    let b = c .before .before .before .before .before in
+    let e = start b in
+    let enough = e .pre .1 .1 in (
+      starts (b .before .rules-of .ensures) (b .book-of .ensures) (sized-run _ (e .good .1 .0)) (e .pre .0),
+      (omega (arith, enough), omega (arith, enough)),
+    )
 
-sub-if2 : tie.Need-sub-if2 Inv-loop μ-loop
-sub-if2 c = c .before .before .loop .inv .2
+state-of-requires : tie.Need-state-of-requires
+state-of-requires c κs = search needs
 
-same-length : tie.Need-same-length Inv-loop μ-loop
-same-length c =
-    let l = c .before .before .before .before in
-    l .loop .inv .0 .size ∙ l .before .before .before .before .advance .ensures .0 .size
+sub-if1 : tie.Need-sub-if1
+sub-if1 c =
+    let k = c .before .before .before .before in
+    let enough = (start (parts k)) .pre .1 .1 in
+    let size = k .commands .ensures .onward .size in
+    omega (arith, enough, size)
 
-returns : tie.Need-returns Inv-loop μ-loop
+same-length : tie.Need-same-length
+same-length c = search needs
+
+returns : tie.Need-returns
 returns c =
-    let l = c .before .before .before .before in
-    let k = l .before .before .before .before in
-    let past = c .if2 .taken in
-    let enough = l .loop .inv .2 in
-    record { continues = onward-ends (k .advance .ensures .0) (l .loop .inv .0); full = λ e. omega (arith, past, enough) }
+    let z = c .before .before in
+    let k = z .before .before .before .before in
+    let b = parts k in
+    let e = start b in
+    fills-on (e .args .from) (b .before .rules-of .ensures) (b .book-of .ensures) (k .commands .ensures) (e .pre .1 .0)
+    (e .pre .1 .1) _ (z .state-of .ensures)
+    (omega (arith, c .if1 .taken, k .commands .ensures .onward .size, e .pre .1 .1))
 
-slice-aggregate-advance-2 : tie.Need-slice-aggregate-advance-2 Inv-loop μ-loop
-slice-aggregate-advance-2 c = sym (c .before .before .before .before .before .loop .inv .1)
+put-positions-requires : tie.Need-put-positions-requires
+put-positions-requires c κs =
+    let l = c .before .before .before in
+    let k = l .before .before .before .before .before .before in
+    let e = start (parts k) in (
+      counts-known _ (e .pre .0 .sound),
+      omega (arith, l .if1 .left, k .commands .ensures .onward .size, e .pre .1 .1),
+    )
 
-advance-requires-2 : tie.Need-advance-requires-2 Inv-loop μ-loop
-advance-requires-2 c κs =
-    let has = c .before .before in
-    let goes = has .before .before in
-    let l = goes .before .before in
-    let fits = has .if2 .left in
-    let enough = l .loop .inv .2 in
-    let still = fails refl (goes .if1 .taken) in
-    (l .loop .inv .0 .going still, (still, (omega (arith, fits, enough), l .loop .inv .1)))
+same-length-2 : tie.Need-same-length-2
+same-length-2 c = search needs
 
-loop-less : tie.Need-loop-less Inv-loop μ-loop
-loop-less c = c .before .before .before .advance2 .ensures .0 .less
-
-loop-again : tie.Need-loop-again Inv-loop μ-loop
-loop-again c =
-    let k = c .before .before .before in
-    let l = k .before .before .before .before .before .before .before in
-    let h = k .advance2 .ensures in
-    let enough = l .loop .inv .2 in
-    let size = h .0 .size in
-    (onward-next (l .loop .inv .0) (h .0), h .1, omega (arith, enough, size))
-
-same-length-2 : tie.Need-same-length-2 Inv-loop μ-loop
-same-length-2 c =
-    let l = c .before .before in
-    l .loop .inv .0 .size ∙ l .before .before .before .before .advance .ensures .0 .size
-
-returns-2 : tie.Need-returns-2 Inv-loop μ-loop
+returns-2 : tie.Need-returns-2
 returns-2 c =
-    let l = c .before .before in
-    let k = l .before .before .before .before in
-    record { continues = onward-ends (k .advance .ensures .0) (l .loop .inv .0); full = λ e. never (sym e ∙ holds refl (c .if1 .left)) }
+    let p = c .before .before in
+    let l = p .before .before .before .before in
+    let k = l .before .before .before .before .before .before in
+    let b = parts k in
+    let e = start b in
+    fills-over (e .args .from) (b .before .rules-of .ensures) (b .book-of .ensures) (k .commands .ensures) (e .pre .1 .0)
+    (e .pre .1 .1) _
+    (omega (arith, l .if1 .left, k .commands .ensures .onward .size, e .pre .1 .1)) (p .put-positions .ensures)
 
 pub resume-spec : {M : Type 1} → statement M
 resume-spec =
     tie.close
     (tie.spec
-    Inv-loop
-    μ-loop
-    slice-aggregate-advance
-    advance-requires
-    loop-holds
-    sub-if2
+    rules-of-requires
+    book-of-requires
+    commands-requires
+    state-of-requires
+    sub-if1
     same-length
     returns
-    slice-aggregate-advance-2
-    advance-requires-2
-    loop-less
-    loop-again
+    put-positions-requires
     same-length-2
     returns-2)

@@ -6,7 +6,7 @@ use Prim.Native.Nat.{ℕ, _<_}
 use mathlib.Core.List.{List, [], _∷_}
 use mathlib.Core.Path.{_≡_, refl}
 use lib.ListN.{getD, length}
-use Rattle.lines.specs.declared.Command.the-variants.{Malformed}
+use Rattle.lines.specs.declared.Line.the-variants.{Malformed}
 use Rattle.lines.specs.Forms.{rowOf}
 use Rattle.lines.specs.Line.{lineSays, saysBy}
 use Rattle.lines.proofs.Fields.{all}

@@ -33,32 +33,32 @@ array-read-t28 c = search needs
 array-read-t31 : tie.Need-array-read-t31
 array-read-t31 c = search needs
 
-array-read-t34 : tie.Need-array-read-t34
-array-read-t34 c = search needs
+array-read-t36 : tie.Need-array-read-t36
+array-read-t36 c = search needs
 
-array-read-t37 : tie.Need-array-read-t37
-array-read-t37 c = search needs
+array-read-t39 : tie.Need-array-read-t39
+array-read-t39 c = search needs
 
-array-read-t40 : tie.Need-array-read-t40
-array-read-t40 c = search needs
+array-read-t42 : tie.Need-array-read-t42
+array-read-t42 c = search needs
 
-array-read-t43 : tie.Need-array-read-t43
-array-read-t43 c = search needs
+array-read-t47 : tie.Need-array-read-t47
+array-read-t47 c = search needs
 
-array-read-t46 : tie.Need-array-read-t46
-array-read-t46 c = search needs
+array-read-t50 : tie.Need-array-read-t50
+array-read-t50 c = search needs
 
-array-read-t49 : tie.Need-array-read-t49
-array-read-t49 c = search needs
-
-array-read-t52 : tie.Need-array-read-t52
-array-read-t52 c = search needs
-
-array-read-t55 : tie.Need-array-read-t55
-array-read-t55 c = search needs
+array-read-t53 : tie.Need-array-read-t53
+array-read-t53 c = search needs
 
 array-read-t58 : tie.Need-array-read-t58
 array-read-t58 c = search needs
+
+array-read-t61 : tie.Need-array-read-t61
+array-read-t61 c = search needs
+
+array-read-t64 : tie.Need-array-read-t64
+array-read-t64 c = search needs
 
 order-requires : tie.Need-order-requires
 order-requires c κs = search needs
@@ -66,17 +66,17 @@ order-requires c κs = search needs
 order-requires-2 : tie.Need-order-requires-2
 order-requires-2 c κs = search needs
 
-array-read-t65 : tie.Need-array-read-t65
-array-read-t65 c = search needs
+array-read-t75 : tie.Need-array-read-t75
+array-read-t75 c = search needs
 
-array-read-t68 : tie.Need-array-read-t68
-array-read-t68 c = search needs
+array-read-t78 : tie.Need-array-read-t78
+array-read-t78 c = search needs
 
-array-read-t71 : tie.Need-array-read-t71
-array-read-t71 c = search needs
+array-read-t82 : tie.Need-array-read-t82
+array-read-t82 c = search needs
 
-array-read-t74 : tie.Need-array-read-t74
-array-read-t74 c = search needs
+array-read-t85 : tie.Need-array-read-t85
+array-read-t85 c = search needs
 
 array-read-side-of : tie.Need-array-read-side-of
 array-read-side-of c = search needs
@@ -84,17 +84,17 @@ array-read-side-of c = search needs
 side-of-requires : tie.Need-side-of-requires
 side-of-requires c κs = search needs
 
-array-read-t81 : tie.Need-array-read-t81
-array-read-t81 c = search needs
+array-read-t93 : tie.Need-array-read-t93
+array-read-t93 c = search needs
 
-array-read-t84 : tie.Need-array-read-t84
-array-read-t84 c = search needs
+array-read-t96 : tie.Need-array-read-t96
+array-read-t96 c = search needs
 
-array-read-t87 : tie.Need-array-read-t87
-array-read-t87 c = search needs
+array-read-t99 : tie.Need-array-read-t99
+array-read-t99 c = search needs
 
-array-read-t91 : tie.Need-array-read-t91
-array-read-t91 c = search needs
+array-read-t104 : tie.Need-array-read-t104
+array-read-t104 c = search needs
 
 array-read-side-of-2 : tie.Need-array-read-side-of-2
 array-read-side-of-2 c = search needs
@@ -102,11 +102,11 @@ array-read-side-of-2 c = search needs
 side-of-requires-2 : tie.Need-side-of-requires-2
 side-of-requires-2 c κs = search needs
 
-array-read-t98 : tie.Need-array-read-t98
-array-read-t98 c = search needs
+array-read-t111 : tie.Need-array-read-t111
+array-read-t111 c = search needs
 
-array-read-t101 : tie.Need-array-read-t101
-array-read-t101 c = search needs
+array-read-t114 : tie.Need-array-read-t114
+array-read-t114 c = search needs
 
 returns : tie.Need-returns
 unfolding rowOf rowIn
@@ -134,11 +134,11 @@ returns-6 c = rw (c .match .keys6)
 
 returns-7 : tie.Need-returns-7
 unfolding rowOf rowIn
-returns-7 c = rw (c .before .match .keys7) (c .order .ensures)
+returns-7 c = rw (c .before .match .keys7, c .order .ensures)
 
 returns-8 : tie.Need-returns-8
 unfolding rowOf rowIn
-returns-8 c = rw (c .before .match .keys8) (c .order2 .ensures)
+returns-8 c = rw (c .before .match .keys8, c .order2 .ensures)
 
 returns-9 : tie.Need-returns-9
 unfolding rowOf rowIn
@@ -183,31 +183,31 @@ says-spec =
     array-read-t25
     array-read-t28
     array-read-t31
-    array-read-t34
-    array-read-t37
-    array-read-t40
-    array-read-t43
-    array-read-t46
-    array-read-t49
-    array-read-t52
-    array-read-t55
+    array-read-t36
+    array-read-t39
+    array-read-t42
+    array-read-t47
+    array-read-t50
+    array-read-t53
     array-read-t58
+    array-read-t61
+    array-read-t64
     order-requires
     order-requires-2
-    array-read-t65
-    array-read-t68
-    array-read-t71
-    array-read-t74
+    array-read-t75
+    array-read-t78
+    array-read-t82
+    array-read-t85
     array-read-side-of
     side-of-requires
-    array-read-t81
-    array-read-t84
-    array-read-t87
-    array-read-t91
+    array-read-t93
+    array-read-t96
+    array-read-t99
+    array-read-t104
     array-read-side-of-2
     side-of-requires-2
-    array-read-t98
-    array-read-t101
+    array-read-t111
+    array-read-t114
     returns
     returns-2
     returns-3

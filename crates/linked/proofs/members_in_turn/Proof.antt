@@ -1,80 +1,124 @@
 -- `linked::members_in_turn` meets its contract. The loop's invariant: the group comes to what is done and the members
 -- from here on.
-use Prim.Native.Nat.{ℕ, _+_, _*_, _-_, _≤_}
+use Prim.Native.Nat.{ℕ, _+_, _*_, _-_, _≤_, _<_}
 use native.Mathlib.Omega.{arith}
-use mathlib.Core.Path.{_≡_, refl, ap, _∙_}
-use mathlib.Core.List.{List, []}
-use lib.ListN.{length, length-take, length-drop}
+use mathlib.Core.Path.{_≡_, ap, _∙_, subst}
+use mathlib.Core.Logic.{⊎-elim}
+use lib.ListN.{length}
 use borrow.Author.Needs.{needs}
-use denote.Ref.{now}
-use Rattle.market.specs.declared.Answer.{Answer}
-use Rattle.market.specs.Limits.{lentAtLeast, maxLots, maxMembers, numbersPerTrade}
-use Rattle.market.specs.Answers.{numbersOf}
-use Rattle.linked.proofs.Lent.{returned}
-use Rattle.linked.proofs.Taken.{before-none}
-use Rattle.linked.proofs.Turns.{Turn, list-long, sums-fit, turn-long, turn-next, turn-room, turn-stops}
-use Rattle.linked.proofs.Turns.{turns-end}
+use Rattle.market.specs.Limits.{lentAtLeast, maxMembers, numbersPerTrade}
+use Rattle.market.specs.Linked.{stopped}
+use Rattle.linked.proofs.Turns.{From, Tells, Turn, code-before, codes-fit, few-members, known, tells-done}
+use Rattle.linked.proofs.Turns.{tells-no, turn-enters, turn-first, turn-long, turn-room, turn-stops, turn-sums}
+use Rattle.linked.proofs.Turns.{turns-end, whole}
 use Rattle.linked.proofs.members_in_turn.Statement.{statement}
 use Rattle.linked.proofs.members_in_turn.Tie as tie
 
 abbrev Inv-loop : tie.InvT-loop
-Inv-loop s participant count trades₀ members kept first present₀ filled₀ made₀ i₀ trades present filled made i =
-    Turn s participant count trades₀ members kept first trades present filled made i
+Inv-loop b phase participant count money₀ pieces₀ trades₀ rules members kept kept-money kept-pieces book₀ filled₀
+    made₀ i₀ money pieces trades book filled made i =
+    Turn (record {
+      rules = rules;
+      phase = phase;
+      owner = participant;
+      count = count;
+      members = members;
+      book = b;
+      money = money₀;
+      pieces = pieces₀;
+      list = trades₀;
+    }) money pieces trades book filled made i
 
 abbrev μ-loop : tie.MeasureT-loop
-μ-loop s participant count trades₀ members kept first present₀ filled₀ made₀ i₀ trades present filled made i =
-    count - i
+μ-loop b phase participant count money₀ pieces₀ trades₀ rules members kept kept-money kept-pieces book₀ filled₀
+    made₀ i₀ money pieces trades book filled made i = count - i
+
+-- what the group starts from
+abbrev from : tie.Start Inv-loop μ-loop → From
+from b =
+    let a = b .args in
+    record {
+      rules = a .t2;
+      phase = a .phase;
+      owner = a .participant;
+      count = a .count;
+      members = a .t6;
+      book = a .b;
+      money = a .money .now;
+      pieces = a .pieces .now;
+      list = a .trades .now;
+    }
 
 saved-requires : tie.Need-saved-requires Inv-loop μ-loop
 saved-requires c κs = c .before .before .pre .lent
 
-add-first : tie.Need-add-first Inv-loop μ-loop
-add-first c = omega (arith, c .before .before .before .before .pre .codes)
-
 loop-holds : tie.Need-loop-holds Inv-loop μ-loop
 loop-holds c =
-    let b = c .before .before .before .before in
-    record {
-      ready = b .pre;
-      listed = b .good .1 .1 .1 .0 .1 .0 .1;
-      saved = c .before .saved .ensures;
-      code = refl;
-      turns = omega arith;
-      stays = b .pre .stays;
-      trades = [];
-      number = refl;
-      space = omega arith;
-      lots = omega arith;
-      list = refl;
-      runs = before-none _;
-    }
+    let b = c .before .before .before .before .before in
+    turn-first (from b) (b .pre) (b .good .1 .1 .1 .1 .1 .0 .1 .0 .1)
 
--- before a member there is room for as many trades as orders wait
+abbrev start : tie.At-loop Inv-loop μ-loop → tie.Start Inv-loop μ-loop
+start c = c .before .before .before .before .before .before
+
+-- before a member there is room for as many trades as orders wait, and the list is long enough
 room : (c : tie.In-loop Inv-loop μ-loop)
-    → numbersPerTrade * (c .before .loop .made + c .before .loop .present .count) ≤ lentAtLeast
+    → numbersPerTrade * (c .before .loop .made + c .before .loop .book .count) ≤ lentAtLeast
 room c = turn-room (c .before .loop .inv) (c .loop-test .taken)
 
--- and for them the list is long enough
 lent : (c : tie.In-loop Inv-loop μ-loop)
-    → numbersPerTrade * (c .before .loop .made + c .before .loop .present .count) ≤ length (c .before .loop .trades)
+    → numbersPerTrade * (c .before .loop .made + c .before .loop .book .count) ≤ length (c .before .loop .trades)
 lent c =
     let t = c .before .loop .inv in
-    omega (arith, room c, turn-long t, t .ready .lent)
+    omega (arith, room c, turn-long t, t .able .lent)
+
+-- there are few members
+place : (c : tie.In-loop Inv-loop μ-loop) → c .before .loop .i < maxMembers
+place c =
+    let b = start (c .before) in
+    omega (arith, few-members (from b) (b .pre), c .loop-test .taken)
 
 mul-at : tie.Need-mul-at Inv-loop μ-loop
 mul-at c = omega (arith, room c)
 
 mul-member : tie.Need-mul-member Inv-loop μ-loop
-mul-member c = omega (arith, c .before .loop .inv .ready .most, c .loop-test .taken)
+mul-member c = omega (arith, place c)
 
 array-copy-out-member : tie.Need-array-copy-out-member Inv-loop μ-loop
-array-copy-out-member c = omega (arith, c .before .loop .inv .ready .most, c .loop-test .taken)
+array-copy-out-member c = place c
+
+first-no-requires : tie.Need-first-no-requires Inv-loop μ-loop
+first-no-requires c κs = c .before .before .before .before .loop .inv .stays
+
+-- a turn, once the member's questions are asked
+abbrev inside : tie.After-first-no Inv-loop μ-loop → tie.In-loop Inv-loop μ-loop
+inside c = c .before .before .before .before
+
+abbrev at : tie.In-loop Inv-loop μ-loop → ℕ
+at c = c .before .loop .made * 8
+
+here : (c : tie.In-loop Inv-loop μ-loop) → at c ≡ numbersPerTrade * c .before .loop .made
+here c = omega arith
+
+add-t39 : tie.Need-add-t39 Inv-loop μ-loop
+add-t39 c = omega (arith, place (inside c))
+
+element-copy-out-row : tie.Need-element-copy-out-row Inv-loop μ-loop
+element-copy-out-row c =
+    let d = c .before in
+    let k = inside d in
+    known (k .before .loop .inv) _ (k .loop-test .taken) (d .first-no .result) (d .first-no .ensures) (c .if1 .taken)
+
+mul-row : tie.Need-mul-row Inv-loop μ-loop
+mul-row c = let h = element-copy-out-row c in omega (arith, h)
+
+entry-of-requires : tie.Need-entry-of-requires Inv-loop μ-loop
+entry-of-requires c κs = codes-fit ((inside (c .before .before)) .before .loop .inv)
 
 mul-enter : tie.Need-mul-enter Inv-loop μ-loop
-mul-enter c = omega (arith, room (c .before))
+mul-enter c = omega (arith, room (inside (c .before .before .before .before .before)))
 
 sub-enter : tie.Need-sub-enter Inv-loop μ-loop
-sub-enter c = omega (arith, lent (c .before))
+sub-enter c = omega (arith, lent (inside (c .before .before .before .before .before)))
 
 part-enter-start : tie.Need-part-enter-start Inv-loop μ-loop
 part-enter-start c = sub-enter c
@@ -84,8 +128,32 @@ part-enter-end c = search needs
 
 enter-requires : tie.Need-enter-requires Inv-loop μ-loop
 enter-requires c κs =
-    let k = c .before .before in
-    (k .before .loop .inv .stays, simp (length-take, length-drop) (omega (arith, lent k)))
+    let o = c .before .before .before in
+    let y = o .before .before in
+    let d = y .before in
+    let k = inside d in
+    turn-enters (k .before .loop .inv) _ (k .loop-test .taken) (d .first-no .result) (d .first-no .ensures) (y .if1 .taken)
+    (at k) (here k) (o .entry-of .ensures)
+
+-- what the member's answer says, whichever way it came
+told : (c : tie.Joined1 Inv-loop μ-loop) →
+    let l = (inside (c .before)) .before .loop in
+    let j = c .if1 in
+    Tells (from (start ((inside (c .before)) .before))) (l .trades) (l .filled) (l .made) (l .i) (j .money) (j .pieces)
+    (j .trades) (j .book) (j .answer)
+told c =
+    let d = c .before in
+    let k = inside d in
+    ⊎-elim
+    (λ w.
+    rw (w .9, w .10, w .11, w .12, w .13)
+    (tells-done (k .before .loop .inv) _ (k .loop-test .taken) (d .first-no .result) (d .first-no .ensures) (w .0 .taken)
+    (at k) (here k) (w .2 .ensures) (w .6 .ensures)))
+    (λ w.
+    rw (w .1, w .2, w .3, w .4, w .5)
+    (tells-no (k .before .loop .inv) _ (k .loop-test .taken) (d .first-no .result) (d .first-no .ensures)
+    (omega (arith, w .0 .left))))
+    (c .if1 .came)
 
 enum-known-answer : tie.Need-enum-known-answer Inv-loop μ-loop
 enum-known-answer c = search needs
@@ -93,98 +161,87 @@ enum-known-answer c = search needs
 enum-told : tie.Need-enum-told Inv-loop μ-loop
 enum-told c = search needs
 
--- a turn, from the member's entry on
-abbrev inside : tie.After-enter Inv-loop μ-loop → tie.In-loop Inv-loop μ-loop
-inside c = c .before .before .before
+-- refused
+abbrev No : Type 0
+No = tie.After-enum-told Inv-loop μ-loop
 
-abbrev at : tie.After-enter Inv-loop μ-loop → ℕ
-at c = (inside c) .before .loop .made * 8
+abbrev asked : No → tie.In-loop Inv-loop μ-loop
+asked c = inside (c .before .before .before)
 
-here : (c : tie.After-enter Inv-loop μ-loop) → at c ≡ numbersPerTrade * (inside c) .before .loop .made
-here c = omega arith
-
-abbrev part : tie.After-enter Inv-loop μ-loop → List ℕ
-part c = c .enter .last .1 .1 .1 .1 .0
-
-long : (c : tie.After-enter Inv-loop μ-loop) →
-    let b : tie.Start Inv-loop μ-loop = (inside c) .before .before .before .before .before .before in
-    length (returned ((inside c) .before .loop .trades) (at c) (part c)) ≡ length (now (b .args .trades))
-long c =
-    let k = inside c in
-    list-long (k .before .loop .inv) _ (k .loop-test .taken) (at c) (here c) (c .enter .result) (part c)
-    (c .enter .ensures)
+stops : (c : No) →
+    let l = (asked c) .before .loop in
+    (whole (from (start ((asked c) .before))) ≡ stopped (c .enum-told .given .0 .0) (c .enum-told .given .0 .1 .0))
+    × (c .before .before .if1 .trades ≡ l .trades)
+stops c =
+    let l = (asked c) .before .loop in
+    let j = c .before .before in
+    subst
+    (Tells (from (start ((asked c) .before))) (l .trades) (l .filled) (l .made) (l .i) (j .if1 .money) (j .if1 .pieces)
+    (j .if1 .trades) (j .if1 .book)) (c .enum-told .given .1) (told j)
 
 restore-requires : tie.Need-restore-requires Inv-loop μ-loop
 restore-requires c κs =
-    let e = c .before .before .before .before .before in
-    let t = (inside e) .before .loop .inv in (
-      omega (arith, room (inside e)),
-      omega (arith, room (inside e), long e, t .ready .lent),
-    )
-
-number-of-requires : tie.Need-number-of-requires Inv-loop μ-loop
-number-of-requires c κs = tt
-
-add-t35 : tie.Need-add-t35 Inv-loop μ-loop
-add-t35 c =
-    let k = inside (c .before .before .before .before .before .before .before .before .before) in
-    omega (arith, k .before .loop .inv .ready .most, k .loop-test .taken)
+    let k = asked (c .before) in
+    (omega (arith, room k), omega (arith, lent k, ap length ((stops (c .before)) .1)))
 
 same-length : tie.Need-same-length Inv-loop μ-loop
 same-length c =
-    let e = c .before .before .before .before .before .before .before .before .before in
-    c .before .before .before .restore .kept .1 .1 .0 ∙ long e
+    let r = c .before .before in
+    let n = r .before .before in
+    r .restore .kept .1 .1 .0 ∙ ap length ((stops n) .1) ∙ turn-long ((asked n) .before .loop .inv)
 
 returns : tie.Need-returns Inv-loop μ-loop
 returns c =
-    let told = c .before .before .before .before .before in
-    let e = told .before .before .before .before in
-    let k = inside e in
-    let number : c .number-of .result ≡ told .enum-told .given .0 .0 =
-    c .number-of .ensures ∙ ap (λ (a : Answer). (numbersOf a) .refusal) (told .enum-told .given .1) in
-    rw (number, c .before .before .before .restore .ensures)
-    (turn-stops (k .before .loop .inv) _ (k .loop-test .taken) (at e) (here e) (e .enter .result) (part e)
-    (e .enter .ensures) _ _ (told .enum-told .given .1))
+    let r = c .before .before in
+    let n = r .before .before in
+    let k = asked n in
+    rw (r .restore .ensures)
+    (turn-stops (k .before .loop .inv) _ _ _ (n .enum-told .given .1) _ (stops n) (at k) (here k) _
+    (k .before .before .before .before .saved .ensures))
 
--- with an accepted member's lots and trades the sums stay small
-sums : (c : tie.After-known-told Inv-loop μ-loop) →
-    let e : tie.After-enter Inv-loop μ-loop = c .before .before .before .before .before in
-    ((inside e) .before .loop .filled + c .before .answer .given .0 .1 .0 ≤ maxLots * maxMembers)
-    × (numbersPerTrade * ((inside e) .before .loop .made + c .before .answer .given .0 .1 .1 .1 .0) ≤ lentAtLeast)
-sums c =
-    let e = c .before .before .before .before .before in
-    let k = inside e in
-    sums-fit (k .before .loop .inv) _ (k .loop-test .taken) (at e) (here e) (e .enter .result) (part e)
-    (e .enter .ensures) _ _ _ _ (c .before .answer .given .1)
+-- accepted
+abbrev Yes : Type 0
+Yes = tie.After-answer Inv-loop μ-loop
+
+goes : (c : Yes) →
+    let l = (inside (c .before .before .before)) .before .loop in
+    let j = c .before .before .if1 in
+    Turn (from (start ((inside (c .before .before .before)) .before))) (j .money) (j .pieces) (j .trades) (j .book)
+    (l .filled + c .answer .given .0 .1 .0) (l .made + c .answer .given .0 .1 .1 .1 .0) (l .i + 1)
+goes c =
+    let j = c .before .before in
+    let l = (inside (j .before)) .before .loop in
+    subst
+    (Tells (from (start ((inside (j .before)) .before))) (l .trades) (l .filled) (l .made) (l .i) (j .if1 .money)
+    (j .if1 .pieces) (j .if1 .trades) (j .if1 .book)) (c .answer .given .1) (told j)
 
 add-filled : tie.Need-add-filled Inv-loop μ-loop
-add-filled c = omega (arith, sums c)
+add-filled c = omega (arith, turn-sums (goes (c .before)))
 
 add-made : tie.Need-add-made Inv-loop μ-loop
-add-made c = omega (arith, sums c)
+add-made c = omega (arith, turn-sums (goes (c .before)))
 
 add-i : tie.Need-add-i Inv-loop μ-loop
-add-i c =
-    let k = inside (c .before .before .before .before .before .before) in
-    omega (arith, k .before .loop .inv .ready .most, k .loop-test .taken)
+add-i c = omega (arith, place (inside (c .before .before .before .before)))
 
 loop-less : tie.Need-loop-less Inv-loop μ-loop
 loop-less c =
-    let k = inside (c .before .before .before .before .before .before) in
+    let k = inside (c .before .before .before .before) in
     omega (arith, k .loop-test .taken)
 
 loop-again : tie.Need-loop-again Inv-loop μ-loop
-loop-again c =
-    let e = c .before .before .before .before .before .before in
-    let k = inside e in
-    turn-next (k .before .loop .inv) _ (k .loop-test .taken) (at e) (here e) (e .enter .result) (part e)
-    (e .enter .ensures) _ _ _ _ (c .before .before .answer .given .1)
+loop-again c = goes (c .before)
+
+add-t53 : tie.Need-add-t53 Inv-loop μ-loop
+add-t53 c =
+    let b = start (c .before .before) in
+    omega (arith, code-before (from b) (b .pre))
 
 same-length-2 : tie.Need-same-length-2 Inv-loop μ-loop
-same-length-2 c = turn-long (c .before .loop .inv)
+same-length-2 c = turn-long (c .before .before .loop .inv)
 
 returns-2 : tie.Need-returns-2 Inv-loop μ-loop
-returns-2 c = turns-end (c .before .loop .inv) (c .loop-test .left)
+returns-2 c = turns-end (c .before .before .loop .inv) (c .before .loop-test .left)
 
 pub members-in-turn-spec : {M : Type 1} → statement M
 members-in-turn-spec =
@@ -193,11 +250,15 @@ members-in-turn-spec =
     Inv-loop
     μ-loop
     saved-requires
-    add-first
     loop-holds
     mul-at
     mul-member
     array-copy-out-member
+    first-no-requires
+    add-t39
+    mul-row
+    element-copy-out-row
+    entry-of-requires
     mul-enter
     sub-enter
     part-enter-start
@@ -206,8 +267,6 @@ members-in-turn-spec =
     enum-known-answer
     enum-told
     restore-requires
-    number-of-requires
-    add-t35
     same-length
     returns
     add-filled
@@ -215,5 +274,6 @@ members-in-turn-spec =
     add-i
     loop-less
     loop-again
+    add-t53
     same-length-2
     returns-2)

@@ -1,194 +1,331 @@
 -- `matching::fill` meets its contract: the search keeps the best of the orders passed, and each turn leaves what the
--- definition's fill comes to as it was.
-use Prim.Native.Nat.{ℕ, _+_, _-_, _<_, min}
-use native.Mathlib.Nat.{min-le-left, zero-add}
+-- definition's fill comes to as it was, under all rules that have the entry's row.
+use Prim.Native.Nat.{ℕ, _+_, _-_, _*_, _≤_, _<_, min}
+use native.Mathlib.Nat.{min-le-left}
 use native.Mathlib.Omega.{arith}
-use mathlib.Core.Path.{_∙_, _≡_, ap, refl, sym}
+use mathlib.Core.Path.{_∙_, _≡_, ap, refl, subst, sym}
+use mathlib.Core.List.{[]}
+use mathlib.Core.Logic.{⊎-elim}
+use lib.ListN.{length, set}
 use borrow.Author.Needs.{needs}
-use Rattle.market.specs.Limits.{maxWaiting}
-use Rattle.market.specs.Day.{view, withLots}
-use Rattle.market.specs.Matching.{best as bestIn, found, none, priceOf}
+use Rattle.market.specs.declared.OrderBook.{OrderBook}
+use Rattle.market.specs.Limits.{maxSecurities, maxWaiting, numbersPerTrade}
+use Rattle.market.specs.declared.Rules.{Rules}
+use Rattle.market.specs.Day.{orderAt, withLots}
+use Rattle.market.specs.Matching.{best as bestIn, fill, found, priceOf}
 use Rattle.market.proofs.Fill.{fill-full, fill-none}
-use Rattle.market.proofs.Sized.{sized}
+use Rattle.market.proofs.Sized.{sized-book}
+use Rattle.matching.specs.Filling.{Flies, openDay}
+use Rattle.matching.specs.Orders.{coded, waitingIn}
 use Rattle.matching.specs.Search.{bestOf}
-use Rattle.matching.specs.Trading.{TradeReady, waitingAt}
 use Rattle.matching.proofs.First.{first-at}
-use Rattle.matching.proofs.Going.{Going, best-lots, found-price, going-ends, going-less, going-next}
-use Rattle.matching.proofs.Going.{going-place, going-ready, going-room}
+use Rattle.matching.proofs.Going.{Going, best-lots, found-price, going-ends, going-lent, going-less, going-next}
+use Rattle.matching.proofs.Going.{going-place, going-ready, going-room, going-security, going-starts}
+use Rattle.matching.proofs.Removal.{Moved, Off, moved-next, moved-starts, off-filled, off-less}
 use Rattle.matching.proofs.Search.{Searched, search-ends, search-starts, search-step}
 use Rattle.matching.proofs.fill.Statement.{statement}
 use Rattle.matching.proofs.fill.Tie as tie
 
 abbrev Inv-search : tie.InvT-search
-Inv-search e trades state left made count best₀ i₀ best i = Searched e (state .orders) count i best
+Inv-search e row money pieces trades book security left made count best₀ i₀ best i =
+    Searched e (book .orders) count i best
 
 abbrev μ-search : tie.MeasureT-search
-μ-search e trades state left made count best₀ i₀ best i = count - i
+μ-search e row money pieces trades book security left made count best₀ i₀ best i = count - i
+
+abbrev Inv-loop : tie.InvT-loop
+Inv-loop e row money pieces trades book₀ security left made count i at lots last j₀ book j =
+    (book .turnover ≡ book₀ .turnover) × Moved (book₀ .orders) (book .orders) at last j
+
+abbrev μ-loop : tie.MeasureT-loop
+μ-loop e row money pieces trades book₀ security left made count i at lots last j₀ book j = last - j
 
 abbrev Inv-fill : tie.InvT-fill
-Inv-fill e trades₀ state₀ left₀ made₀ trades state left made = Going e state₀ trades₀ trades state left made
+Inv-fill e row money₀ pieces₀ trades₀ book₀ security left₀ made₀ money pieces trades book left made =
+    (length (book .orders) ≡ maxWaiting)
+    × ((r : Rules) → Flies r row (coded book₀ e) e money₀ pieces₀
+    → Going (record { r = r; l = row; e = e; m = money₀; k = pieces₀; b = coded book₀ e; v = trades₀ }) money pieces trades
+    (coded book e) left made)
 
 abbrev μ-fill : tie.MeasureT-fill
-μ-fill e trades₀ state₀ left₀ made₀ trades state left made = state .count + left
+μ-fill e row money₀ pieces₀ trades₀ book₀ security left₀ made₀ money pieces trades book left made = book .count + left
 
-fill-holds : tie.Need-fill-holds Inv-search μ-search Inv-fill μ-fill
-fill-holds c = record {
-  sized = sized (c .before .args .s) (c .before .good .0);
-  flight = c .before .pre .0;
-  long = refl;
-  day = refl;
-  rest = refl;
-  trades = zero-add _;
-  list = refl;
-}
+fill-holds : tie.Need-fill-holds Inv-search μ-search Inv-loop μ-loop Inv-fill μ-fill
+fill-holds c = ((sized-book (c .before .args .b) (c .before .good .0)) .orders, λ r f. going-starts _ f)
 
-search-holds : tie.Need-search-holds Inv-search μ-search Inv-fill μ-fill
+search-holds : tie.Need-search-holds Inv-search μ-search Inv-loop μ-loop Inv-fill μ-fill
 search-holds c =
-    let s = c .before .fill .state in
-    search-starts (c .before .before .before .args .e) (s .orders) (s .count)
+    let b = c .before .fill .book in
+    search-starts (c .before .before .before .args .e) (b .orders) (b .count)
 
-enum-known-best : tie.Need-enum-known-best Inv-search μ-search Inv-fill μ-fill
+enum-known-best : tie.Need-enum-known-best Inv-search μ-search Inv-loop μ-loop Inv-fill μ-fill
 enum-known-best c = search needs
 
-enum-told : tie.Need-enum-told Inv-search μ-search Inv-fill μ-fill
+enum-told : tie.Need-enum-told Inv-search μ-search Inv-loop μ-loop Inv-fill μ-fill
 enum-told c = search needs
 
--- the order read by the search stands in the array
-within : (c : tie.Else1 Inv-search μ-search Inv-fill μ-fill) → c .before .search .i < maxWaiting
-within c = omega (arith, c .if1 .left, going-room (c .before .before .before .fill .inv))
+-- a turn of the fill under the rules that the caller vouches for
+abbrev Turn : Type 0
+Turn = tie.At-fill Inv-search μ-search Inv-loop μ-loop Inv-fill μ-fill
 
-mul-o : tie.Need-mul-o Inv-search μ-search Inv-fill μ-fill
+abbrev going : (c : Turn) →
+    let p = c .before .before .pre in
+    let a = c .before .before .args in
+    let f = c .fill in
+    Going (record { r = p .rules; l = a .row; e = a .e; m = a .money .now; k = a .pieces .now; b = coded (a .b) (a .e); v = a .trades .now })
+    (f .money) (f .pieces) (f .trades) (coded (f .book) (a .e)) (f .left) (f .made)
+going c = let p = c .before .before .pre in c .fill .inv .1 (p .rules) (p .flies)
+
+-- the order read by the search stands in the array
+within : (c : tie.Else1 Inv-search μ-search Inv-loop μ-loop Inv-fill μ-fill) → c .before .search .i < maxWaiting
+within c = omega (arith, c .if1 .left, going-room (going (c .before .before .before)))
+
+mul-o : tie.Need-mul-o Inv-search μ-search Inv-loop μ-loop Inv-fill μ-fill
 mul-o c = omega (arith, within c)
 
-element-copy-out-o : tie.Need-element-copy-out-o Inv-search μ-search Inv-fill μ-fill
+element-copy-out-o : tie.Need-element-copy-out-o Inv-search μ-search Inv-loop μ-loop Inv-fill μ-fill
 element-copy-out-o c = within c
 
-preferred-requires : tie.Need-preferred-requires Inv-search μ-search Inv-fill μ-fill
+preferred-requires : tie.Need-preferred-requires Inv-search μ-search Inv-loop μ-loop Inv-fill μ-fill
 preferred-requires c κs = tt
 
-add-i : tie.Need-add-i Inv-search μ-search Inv-fill μ-fill
+add-i : tie.Need-add-i Inv-search μ-search Inv-loop μ-loop Inv-fill μ-fill
 add-i c = omega (arith, within (c .before .before))
 
-search-less : tie.Need-search-less Inv-search μ-search Inv-fill μ-fill
+search-less : tie.Need-search-less Inv-search μ-search Inv-loop μ-loop Inv-fill μ-fill
 search-less c = omega (arith, c .before .before .if1 .left)
 
-search-again : tie.Need-search-again Inv-search μ-search Inv-fill μ-fill
+search-again : tie.Need-search-again Inv-search μ-search Inv-loop μ-loop Inv-fill μ-fill
 search-again c =
     search-step (c .before .before .before .search .inv) (c .before .before .if1 .left) (c .preferred .ensures)
 
--- the place where the search has found an order, the turn of the fill that it is in, and the function's start
+-- the place where the search has found an order, and the turn of the fill that it is in
 abbrev Here : Type 0
-Here = tie.After-known-told Inv-search μ-search Inv-fill μ-fill
+Here = tie.After-known-told Inv-search μ-search Inv-loop μ-loop Inv-fill μ-fill
 
-abbrev turn : Here → tie.At-fill Inv-search μ-search Inv-fill μ-fill
+abbrev turn : Here → Turn
 turn c = c .before .before .before .before .before .before
 
-abbrev start : Here → tie.Start Inv-search μ-search Inv-fill μ-fill
-start c = c .before .before .before .before .before .before .before .before
+abbrev start : Here → tie.Start Inv-search μ-search Inv-loop μ-loop Inv-fill μ-fill
+start c = (turn c) .before .before
 
 abbrev at : Here → ℕ
 at c = c .before .best .given .0 .0
 
 -- the order found is the definition's
 found-at : (c : Here)
-    → bestIn ((start c) .args .e) ((view ((turn c) .fill .state)) .waiting)
-    ≡ found (at c) (priceOf (waitingAt ((turn c) .fill .state) (at c)))
+    → bestIn ((start c) .args .e) (waitingIn ((turn c) .fill .book))
+    ≡ found (at c) (priceOf (orderAt (waitingIn ((turn c) .fill .book)) (at c)))
 found-at c =
-    let s = (turn c) .fill .state in
     let e = (start c) .args .e in
     let l = c .before .before .before .before .search in
-    found-price e ((view s) .waiting) (at c) (c .before .best .given .0 .1 .0)
+    found-price e (waitingIn ((turn c) .fill .book)) (at c) (c .before .best .given .0 .1 .0)
     (search-ends (l .inv) (c .before .before .before .if1 .taken) ∙ ap bestOf (c .before .best .given .1))
 
 some : (c : Here) → 0 < (turn c) .fill .left
 some c = c .before .before .before .before .before .fill-test .taken
 
+place : (c : Here) → at c < (turn c) .fill .book .count
+place c = going-place (going (turn c)) (at c) (some c) (found-at c)
+
 inside : (c : Here) → at c < maxWaiting
-inside c =
-    let g = (turn c) .fill .inv in
-    omega (arith, going-place g (at c) (some c) (found-at c), going-room g)
+inside c = omega (arith, place c, going-room (going (turn c)))
 
-ready : (c : Here) →
-    let f = (turn c) .fill in
-    let o = waitingAt (f .state) (at c) in
-    TradeReady (f .state) (withLots ((start c) .args .e) (f .left)) (at c) (min (f .left) (o .lots)) (f .made)
-    (f .trades)
-ready c =
-    going-ready ((turn c) .fill .inv) (at c) (some c) (found-at c) ((start c) .pre .0) ((start c) .pre .1)
+known : (c : Here) → (start c) .args .e .security < maxSecurities
+known c = going-security (going (turn c))
 
--- the lots of the trade are the definition's
-part : (c : tie.After-lesser Inv-search μ-search Inv-fill μ-fill) →
+lent : (c : Here) → numbersPerTrade * (turn c) .fill .made + numbersPerTrade ≤ length ((turn c) .fill .trades)
+lent c = going-lent (going (turn c)) (at c) (some c) (found-at c) ((start c) .pre .lent)
+
+-- the order read is the one that waits there, and the lots of the trade are the definition's
+other : (c : Here) → orderAt ((turn c) .fill .book .orders) (at c) ≡ orderAt (waitingIn ((turn c) .fill .book)) (at c)
+other c = let b = (turn c) .fill .book in sym (first-at (b .count) (b .orders) (at c) (place c))
+
+part : (c : tie.After-lesser Inv-search μ-search Inv-loop μ-loop Inv-fill μ-fill) →
     let f = (turn (c .before .before)) .fill in
-    let o = waitingAt (f .state) (at (c .before .before)) in
-    c .lesser .result ≡ min (f .left) (o .lots)
+    c .lesser .result ≡ min (f .left) ((orderAt (waitingIn (f .book)) (at (c .before .before))) .lots)
 part c =
     let k = c .before .before in
-    let f = (turn k) .fill in
-    let s = f .state in
-    let place = going-place (f .inv) (at k) (some k) (found-at k) in
-    c .lesser .ensures ∙ ap (λ o. min (f .left) (o .lots)) (sym (first-at (s .count) (s .orders) (at k) place))
+    c .lesser .ensures ∙ ap (λ o. min ((turn k) .fill .left) (o .lots)) (other k)
 
-mul-o-2 : tie.Need-mul-o-2 Inv-search μ-search Inv-fill μ-fill
+mul-o-2 : tie.Need-mul-o-2 Inv-search μ-search Inv-loop μ-loop Inv-fill μ-fill
 mul-o-2 c = omega (arith, inside c)
 
-element-copy-out-o-2 : tie.Need-element-copy-out-o-2 Inv-search μ-search Inv-fill μ-fill
+element-copy-out-o-2 : tie.Need-element-copy-out-o-2 Inv-search μ-search Inv-loop μ-loop Inv-fill μ-fill
 element-copy-out-o-2 c = inside c
 
-lesser-requires : tie.Need-lesser-requires Inv-search μ-search Inv-fill μ-fill
+lesser-requires : tie.Need-lesser-requires Inv-search μ-search Inv-loop μ-loop Inv-fill μ-fill
 lesser-requires c κs = tt
 
-with-lots-requires : tie.Need-with-lots-requires Inv-search μ-search Inv-fill μ-fill
+with-lots-requires : tie.Need-with-lots-requires Inv-search μ-search Inv-loop μ-loop Inv-fill μ-fill
 with-lots-requires c κs = tt
 
-trade-with-requires : tie.Need-trade-with-requires Inv-search μ-search Inv-fill μ-fill
+mul-turnover : tie.Need-mul-turnover Inv-search μ-search Inv-loop μ-loop Inv-fill μ-fill
+mul-turnover c = omega (arith, known (c .before .before .before))
+
+element-copy-out-turnover : tie.Need-element-copy-out-turnover Inv-search μ-search Inv-loop μ-loop Inv-fill μ-fill
+element-copy-out-turnover c = known (c .before .before .before)
+
+trade-with-requires : tie.Need-trade-with-requires Inv-search μ-search Inv-loop μ-loop Inv-fill μ-fill
 trade-with-requires c κs =
-    rw (c .before .with-lots .ensures, part (c .before .before)) (ready (c .before .before .before .before))
+    let w = c .before .before .before .before in
+    let k = w .before .before .before in
+    going-ready (going (turn k)) (at k) (some k) (found-at k) (w .with-lots .ensures) (other k) (part (w .before)) (lent k)
 
-sub-left : tie.Need-sub-left Inv-search μ-search Inv-fill μ-fill
-sub-left c = rw (part (c .before .before .before .before .before)) (min-le-left _ _)
+-- the places behind the trade: its lots are known, then its Q and T stand in the book
+abbrev Done : Type 0
+Done = tie.After-struct-known Inv-search μ-search Inv-loop μ-loop Inv-fill μ-fill
 
-add-made : tie.Need-add-made Inv-search μ-search Inv-fill μ-fill
+abbrev sized : tie.After-slice-known2 Inv-search μ-search Inv-loop μ-loop Inv-fill μ-fill
+    → tie.After-with-lots Inv-search μ-search Inv-loop μ-loop Inv-fill μ-fill
+sized c = c .before .before .before .before .before .before .before
+
+abbrev here : Done → Here
+here c = (sized (c .before)) .before .before .before
+
+abbrev counted : Done → OrderBook
+counted c =
+    let k = here c in
+    let b = (turn k) .fill .book in
+    record {
+      orders = b .orders;
+      count = b .count;
+      codes = b .codes;
+      turnover = set (b .turnover) ((start k) .args .e .security) (c .before .before .before .trade-with .result);
+      filled = b .filled;
+      left = b .left;
+      trades = b .trades;
+    }
+
+roomy : (c : Done) → (counted c) .count ≤ length ((counted c) .orders)
+roomy c = let k = turn (here c) in omega (arith, going-room (going k), k .fill .inv .0)
+
+mul-t31 : tie.Need-mul-t31 Inv-search μ-search Inv-loop μ-loop Inv-fill μ-fill
+mul-t31 c = omega (arith, known ((sized c) .before .before .before))
+
+element-set-from-book : tie.Need-element-set-from-book Inv-search μ-search Inv-loop μ-loop Inv-fill μ-fill
+element-set-from-book c = known ((sized c) .before .before .before)
+
+sub-last : tie.Need-sub-last Inv-search μ-search Inv-loop μ-loop Inv-fill μ-fill
+sub-last c = omega (arith, place (here (c .before)))
+
+loop-holds : tie.Need-loop-holds Inv-search μ-search Inv-loop μ-loop Inv-fill μ-fill
+loop-holds c =
+    let k = here (c .before) in
+    let b = (turn k) .fill .book in
+    (refl, moved-starts (b .orders) (at k) (b .count - 1) (omega (arith, place k)))
+
+-- the order that moves stands in the array
+moves : (c : tie.In-loop Inv-search μ-search Inv-loop μ-loop Inv-fill μ-fill) → c .before .loop .j + 1 < maxWaiting
+moves c =
+    omega (arith, c .loop-test .taken, going-room (going (turn (here (c .before .before .before)))))
+
+add-later : tie.Need-add-later Inv-search μ-search Inv-loop μ-loop Inv-fill μ-fill
+add-later c = omega (arith, moves c)
+
+mul-later : tie.Need-mul-later Inv-search μ-search Inv-loop μ-loop Inv-fill μ-fill
+mul-later c = omega (arith, moves c)
+
+element-copy-out-later : tie.Need-element-copy-out-later Inv-search μ-search Inv-loop μ-loop Inv-fill μ-fill
+element-copy-out-later c = omega (arith, moves c)
+
+mul-later-2 : tie.Need-mul-later-2 Inv-search μ-search Inv-loop μ-loop Inv-fill μ-fill
+mul-later-2 c = omega (arith, moves (c .before))
+
+element-set-from-later : tie.Need-element-set-from-later Inv-search μ-search Inv-loop μ-loop Inv-fill μ-fill
+element-set-from-later c = omega (arith, moves (c .before))
+
+add-j : tie.Need-add-j Inv-search μ-search Inv-loop μ-loop Inv-fill μ-fill
+add-j c = omega (arith, moves (c .before))
+
+loop-less : tie.Need-loop-less Inv-search μ-search Inv-loop μ-loop Inv-fill μ-fill
+loop-less c = omega (arith, c .before .loop-test .taken)
+
+loop-again : tie.Need-loop-again Inv-search μ-search Inv-loop μ-loop Inv-fill μ-fill
+loop-again c =
+    let l = c .before .before .loop in
+    let d = c .before .before .before .before in
+    (l .inv .0, moved-next (l .inv .1) (omega (arith, roomy d, place (here d))) _ (c .before .loop-test .taken))
+
+sub-with-lots : tie.Need-sub-with-lots Inv-search μ-search Inv-loop μ-loop Inv-fill μ-fill
+sub-with-lots c = omega (arith, c .before .if2 .left)
+
+with-lots-requires-2 : tie.Need-with-lots-requires-2 Inv-search μ-search Inv-loop μ-loop Inv-fill μ-fill
+with-lots-requires-2 c κs = tt
+
+mul-t54 : tie.Need-mul-t54 Inv-search μ-search Inv-loop μ-loop Inv-fill μ-fill
+mul-t54 c = omega (arith, inside (here (c .before .before .before)))
+
+element-set-from-book-2 : tie.Need-element-set-from-book-2 Inv-search μ-search Inv-loop μ-loop Inv-fill μ-fill
+element-set-from-book-2 c = inside (here (c .before .before .before))
+
+-- the lots of the trade are off the order
+abbrev Joined : Type 0
+Joined = tie.Joined2 Inv-search μ-search Inv-loop μ-loop Inv-fill μ-fill
+
+off : (c : Joined) → Off (counted (c .before)) (at (here (c .before))) ((sized (c .before .before)) .before .lesser .result) (c .if2 .book)
+off c =
+    let d = c .before in
+    let k = here d in
+    let n = (sized (d .before)) .before .lesser .result in
+    ⊎-elim
+    (λ w.
+    subst (Off (counted d) (at k) n) (sym (w .3))
+    (off-filled (counted d) (at k) n (place k) (roomy d) (w .0 .taken) (w .1 .inv .1) (w .2 .left) _ refl refl (w .1 .inv .0)))
+    (λ w.
+    subst (Off (counted d) (at k) n) (sym (w .3))
+    (off-less (counted d) (at k) n (place k) (roomy d) (w .0 .left) (w .2 .result) (w .2 .ensures) _ refl refl refl))
+    (c .if2 .came)
+
+sub-left : tie.Need-sub-left Inv-search μ-search Inv-loop μ-loop Inv-fill μ-fill
+sub-left c = rw (part ((sized (c .before .before)) .before)) (min-le-left _ _)
+
+add-made : tie.Need-add-made Inv-search μ-search Inv-loop μ-loop Inv-fill μ-fill
 add-made c =
-    let k = c .before .before .before .before .before .before .before in
-    omega (arith, (ready k) .lent, (turn k) .fill .inv .long, (start k) .good .1 .1 .0 .0)
+    let k = here (c .before) in
+    omega (arith, lent k, (going (turn k)) .long, (start k) .good .1 .1 .1 .1 .1 .0 .0)
 
-fill-less : tie.Need-fill-less Inv-search μ-search Inv-fill μ-fill
+fill-less : tie.Need-fill-less Inv-search μ-search Inv-loop μ-loop Inv-fill μ-fill
 fill-less c =
-    let k = c .before .before .before .before .before .before .before in
-    going-less ((turn k) .fill .inv) (at k) (some k) (found-at k)
-    (sized (c .before .before .trade-with .result) (c .before .before .trade-with .ok))
-    (c .before .before .before .before .with-lots .ensures) (part (c .before .before .before .before .before))
-    (c .before .before .trade-with .ensures) ((ready k) .lent)
+    let w = sized (c .before .before) in
+    let k = w .before .before .before in
+    let o = off c in
+    going-less (going (turn k)) (at k) (some k) (found-at k) (w .with-lots .ensures) (other k) (part (w .before))
+    (coded (c .if2 .book) ((start k) .args .e)) (c .before .before .before .before .trade-with .ensures) (o .waiting) refl
+    (o .turnover) (lent k)
 
-fill-again : tie.Need-fill-again Inv-search μ-search Inv-fill μ-fill
+fill-again : tie.Need-fill-again Inv-search μ-search Inv-loop μ-loop Inv-fill μ-fill
 fill-again c =
-    let k = c .before .before .before .before .before .before .before in
-    going-next ((turn k) .fill .inv) (at k) (some k) (found-at k)
-    (sized (c .before .before .trade-with .result) (c .before .before .trade-with .ok))
-    (c .before .before .before .before .with-lots .ensures) (part (c .before .before .before .before .before))
-    (c .before .before .trade-with .ensures) ((ready k) .lent)
+    let w = sized (c .before .before) in
+    let k = w .before .before .before in
+    let o = off c in (
+      o .long ∙ (turn k) .fill .inv .0,
+      λ r f.
+          going-next ((turn k) .fill .inv .1 r f) (at k) (some k) (found-at k) (w .with-lots .ensures) (other k)
+          (part (w .before)) (coded (c .if2 .book) ((start k) .args .e)) (c .before .before .before .before .trade-with .ensures)
+          (o .waiting) refl (o .turnover) (lent k),
+    )
 
-same-length : tie.Need-same-length Inv-search μ-search Inv-fill μ-fill
-same-length c = c .before .fill .inv .long
+sub-book : tie.Need-sub-book Inv-search μ-search Inv-loop μ-loop Inv-fill μ-fill
+sub-book c = (going (c .before .before)) .less
 
-returns : tie.Need-returns Inv-search μ-search Inv-fill μ-fill
-returns c =
-    let f = c .before .fill in
-    let e = c .before .before .before .args .e in
-    going-ends (f .inv) (fill-full (view (f .state)) (withLots e (f .left)) (omega arith))
+same-length : tie.Need-same-length Inv-search μ-search Inv-loop μ-loop Inv-fill μ-fill
+same-length c = (going (c .before .before)) .long
 
-same-length-2 : tie.Need-same-length-2 Inv-search μ-search Inv-fill μ-fill
-same-length-2 c = c .before .before .before .before .before .fill .inv .long
-
-returns-2 : tie.Need-returns-2 Inv-search μ-search Inv-fill μ-fill
-returns-2 c =
-    let f = c .before .before .before .before .before .fill in
-    let e = c .before .before .before .before .before .before .before .args .e in
-    let w = (view (f .state)) .waiting in
-    let nothing : bestIn e w ≡ none =
-    search-ends (c .before .before .before .search .inv) (c .before .before .if1 .taken)
-    ∙ ap bestOf (c .enum-told .given .1) in
-    going-ends (f .inv) (fill-none (view (f .state)) (withLots e (f .left)) (best-lots e (f .left) w ∙ nothing))
+returns : tie.Need-returns Inv-search μ-search Inv-loop μ-loop Inv-fill μ-fill
+returns c = λ r g.
+    let f = c .before .before .fill in
+    let e = c .before .before .before .before .args .e in
+    let d = openDay r (f .money) (f .pieces) (coded (f .book) e) in
+    let over : fill d (withLots e (f .left)) ≡ record { day = d; entry = withLots e (f .left); trades = [] } =
+    ⊎-elim (λ full. fill-full d (withLots e (f .left)) (omega (arith, full .left)))
+    (λ w.
+    fill-none d (withLots e (f .left))
+    (best-lots e (f .left) (waitingIn (f .book))
+    ∙ search-ends (w .1 .inv) (w .2 .taken)
+    ∙ ap bestOf (w .4 .given .1)))
+    (c .before .fill-test .came) in
+    going-ends (f .inv .1 r g) over _ refl refl refl refl
 
 pub fill-spec : {M : Type 1} → statement M
 fill-spec =
@@ -196,6 +333,8 @@ fill-spec =
     (tie.spec
     Inv-search
     μ-search
+    Inv-loop
+    μ-loop
     Inv-fill
     μ-fill
     fill-holds
@@ -212,12 +351,29 @@ fill-spec =
     element-copy-out-o-2
     lesser-requires
     with-lots-requires
+    mul-turnover
+    element-copy-out-turnover
     trade-with-requires
+    mul-t31
+    element-set-from-book
+    sub-last
+    loop-holds
+    add-later
+    mul-later
+    element-copy-out-later
+    mul-later-2
+    element-set-from-later
+    add-j
+    loop-less
+    loop-again
+    sub-with-lots
+    with-lots-requires-2
+    mul-t54
+    element-set-from-book-2
     sub-left
     add-made
     fill-less
     fill-again
+    sub-book
     same-length
-    returns
-    same-length-2
-    returns-2)
+    returns)

@@ -1,31 +1,35 @@
 -- `orders::cancel` meets its contract: the participant is known and the order is found, and it leaves.
+use Prim.Native.Nat.{_<_}
+use native.Mathlib.Omega.{arith}
 use mathlib.Core.Path.{_≡_, ap, sym, _∙_}
-use Rattle.market.specs.Day.{view}
+use Rattle.market.specs.Limits.{maxSecurities, maxWaiting}
+use Rattle.market.specs.Day.{orderAt}
 use Rattle.market.specs.Waiting.{placeOf, somewhere}
-use Rattle.market.proofs.Sized.{sized}
-use Rattle.market.proofs.Step.{does-refuse}
-use Rattle.waiting.proofs.Allowed.{good-leaves}
+use Rattle.matching.specs.Orders.{waitingIn}
 use Rattle.orders.specs.Finding.{foundAt}
-use Rattle.orders.proofs.Allowing.{count-fits, good}
-use Rattle.orders.proofs.Calling.{cancel-does, cancel-none, cancel-unknown, found-waits}
+use Rattle.orders.proofs.Cancelling.{cancel-carries, cancel-none, cancel-unknown, found-inside, found-known}
+use Rattle.orders.proofs.Cancelling.{found-leaves}
+use Rattle.orders.proofs.Calling.{few-lots}
 use borrow.Author.Needs.{needs}
 use Rattle.orders.proofs.cancel.Statement.{statement}
 use Rattle.orders.proofs.cancel.Tie as tie
 
-refused-requires : tie.Need-refused-requires
-refused-requires c κs = search needs
+declined-requires : tie.Need-declined-requires
+declined-requires c κs = search needs
 
 returns : tie.Need-returns
 returns c =
     let b = c .before .before .before in
     let a = b .args in
-    rw (c .refused .ensures)
-    (does-refuse (a .s) _ _ 3 (cancel-unknown (a .s) (a .participant) (a .code) (b .pre) (c .before .if1 .taken)))
+    rw (c .declined .ensures)
+    (cancel-unknown (a .rules) (a .phase) (a .money .now) (a .pieces .now) (a .t1) (a .participant) (a .code) (b .pre)
+    (c .before .if1 .taken))
 
 find-requires : tie.Need-find-requires
 find-requires c κs =
-    let b = c .before .before .before in
-    count-fits (b .args .s) ((sized (b .args .s) (b .good .0)) .day) (b .pre)
+    let b = c .before .before in
+    let a = b .args in
+    (few-lots (a .rules) (a .phase) (a .money .now) (a .pieces .now) (a .t1) (b .pre)) .room
 
 enum-known-found : tie.Need-enum-known-found
 enum-known-found c = search needs
@@ -33,52 +37,87 @@ enum-known-found c = search needs
 enum-told : tie.Need-enum-told
 enum-told c = search needs
 
-refused-requires-2 : tie.Need-refused-requires-2
-refused-requires-2 c κs = search needs
+declined-requires-2 : tie.Need-declined-requires-2
+declined-requires-2 c κs = search needs
+
+-- behind the search
+abbrev start : tie.After-find → tie.Start
+start c = c .before .before .before
 
 returns-2 : tie.Need-returns-2
 returns-2 c =
-    let k = c .before .before .before in
-    let b = k .before .before .before .before in
+    let f = c .before .before .before in
+    let b = start f in
     let a = b .args in
-    rw (c .refused2 .ensures)
-    (does-refuse (a .s) _ _ 15
-    (cancel-none (a .s) (a .participant) (a .code) (b .pre) (k .before .before .if1 .left)
-    (sym (k .find .ensures) ∙ ap foundAt (c .before .enum-told .given .1))))
+    rw (c .declined2 .ensures)
+    (cancel-none (a .rules) (a .phase) (a .money .now) (a .pieces .now) (a .t1) (a .participant) (a .code) (b .pre)
+    (f .before .if1 .left) (sym (ap foundAt (c .before .enum-told .given .1)) ∙ f .find .ensures))
 
 -- the place that the search found
 there : (c : tie.After-known-told) →
-    let b : tie.Start = c .before .before .before .before .before .before .before in
-    placeOf (b .args .participant) (b .args .code) ((view (b .args .s)) .waiting)
-    ≡ somewhere (c .before .found .given .0 .0)
-there c = sym (c .before .before .before .find .ensures) ∙ ap foundAt (c .before .found .given .1)
+    let a = (start (c .before .before .before)) .args in
+    somewhere (c .before .found .given .0 .0) ≡ placeOf (a .participant) (a .code) (waitingIn (a .t1))
+there c = sym (ap foundAt (c .before .found .given .1)) ∙ c .before .before .before .find .ensures
+
+inside : (c : tie.After-known-told) → c .before .found .given .0 .0 < maxWaiting
+inside c =
+    let b = start (c .before .before .before) in
+    let a = b .args in
+    found-inside (a .rules) (a .phase) (a .money .now) (a .pieces .now) (a .t1) (a .participant) (a .code) (b .pre)
+    (c .before .found .given .0 .0) (there c)
+
+known : (c : tie.After-known-told) →
+    let a = (start (c .before .before .before)) .args in
+    (orderAt (a .t1 .orders) (c .before .found .given .0 .0)) .security < maxSecurities
+known c =
+    let b = start (c .before .before .before) in
+    let a = b .args in
+    found-known (a .rules) (a .phase) (a .money .now) (a .pieces .now) (a .t1) (a .participant) (a .code) (b .pre)
+    (c .before .found .given .0 .0) (there c)
+
+mul-o : tie.Need-mul-o
+mul-o c = omega (arith, inside c)
+
+element-copy-out-o : tie.Need-element-copy-out-o
+element-copy-out-o c = inside c
+
+mul-row : tie.Need-mul-row
+mul-row c = omega (arith, known (c .before .before))
+
+array-copy-out-row : tie.Need-array-copy-out-row
+array-copy-out-row c = known (c .before .before)
 
 left-requires : tie.Need-left-requires
 left-requires c κs =
-    let b = c .before .before .before .before .before .before .before in
+    let k = c .before .before .before .before .before in
+    let b = start (k .before .before .before) in
     let a = b .args in
-    good-leaves (good (view (a .s)) ((sized (a .s) (b .good .0)) .day) (b .pre)) (c .before .found .given .0 .0)
-    (found-waits (a .s) (a .participant) (a .code) (b .pre) (c .before .found .given .0 .0) (there c))
+    found-leaves (a .rules) (a .phase) (a .money .now) (a .pieces .now) (a .t1) (a .participant) (a .code) (b .pre)
+    (k .before .found .given .0 .0) (there k)
 
 returns-3 : tie.Need-returns-3
 returns-3 c =
-    let k = c .before in
-    let l = k .before .before .before .before .before in
-    let b = l .before .before in
+    let k = c .before .before .before .before .before .before in
+    let f = k .before .before .before in
+    let b = start f in
     let a = b .args in
-    cancel-does (a .s) (a .participant) (a .code) (b .pre) (k .before .found .given .0 .0) _ (l .if1 .left) (there k)
-    (c .left .ensures)
+    cancel-carries (a .rules) (a .phase) (a .money .now) (a .pieces .now) (a .t1) (a .participant) (a .code) (b .pre)
+    (k .before .found .given .0 .0) (there k) _ _ (c .left .result) (f .before .if1 .left) (c .left .ensures)
 
 pub cancel-spec : {M : Type 1} → statement M
 cancel-spec =
     tie.close
     (tie.spec
-    refused-requires
+    declined-requires
     returns
     find-requires
     enum-known-found
     enum-told
-    refused-requires-2
+    declined-requires-2
     returns-2
+    mul-o
+    element-copy-out-o
+    mul-row
+    array-copy-out-row
     left-requires
     returns-3)

@@ -1,138 +1,210 @@
--- `orders::enter` meets its contract: the first "no" is refused; else the order is admitted and matched, and what is left
--- of it waits or is freed.
+-- `orders::enter` meets its contract: the need is blocked, the entry matched, and what is left of it waits or is freed,
+-- under all rules that have the entry's row.
+use Prim.Native.Nat.{ℕ, _-_, _<_}
 use native.Mathlib.Omega.{arith}
-use mathlib.Core.Path.{_≡_, ap, sym, subst}
-use borrow.Author.Tests.{ltb-true}
-use denote.Ref.{now}
+use mathlib.Core.Path.{_≡_, ap, _∙_}
 use Rattle.market.specs.declared.Order.{Order}
-use Rattle.market.specs.Limits.{maxCodes}
-use Rattle.market.specs.Day.{Day, Sized, view}
-use Rattle.market.specs.Positions.{blockFor}
-use Rattle.market.specs.Calls.{entryOf}
-use Rattle.market.specs.Entry.{admitted}
-use Rattle.market.proofs.Sized.{sized}
-use Rattle.matching.specs.Filling.{InFlight}
-use Rattle.waiting.specs.Claims.{Admissible}
-use Rattle.orders.specs.Entering.{orderNo}
-use Rattle.orders.proofs.Allowing.{admissible, flies, same-count}
-use Rattle.orders.proofs.Accepting.{enters-accepted, enters-refused, gives-entered, part, rest-finishes}
 use borrow.Author.Needs.{needs}
+use Rattle.market.specs.Limits.{maxSecurities, maxWaiting}
+use Rattle.market.specs.declared.Rules.{Rules}
+use Rattle.market.specs.Day.{turnoverAt, withLots}
+use Rattle.market.specs.Positions.{release}
+use Rattle.market.specs.Matching.{fill}
+use Rattle.market.specs.Entry.{leftWaiting}
+use Rattle.market.proofs.Sized.{sized-book}
+use Rattle.matching.specs.Filling.{FilledAs, openDay}
+use Rattle.matching.specs.Orders.{coded}
+use Rattle.waiting.specs.Claims.{moneyWith, piecesWith}
+use Rattle.orders.specs.Entering.{Accepts}
+use Rattle.orders.proofs.Finishing.{waits-part}
+use Rattle.orders.proofs.Accepting.{blockable, flies, freeable, gives-done, gives-waits, listed, place-left}
 use Rattle.orders.proofs.enter.Statement.{statement}
 use Rattle.orders.proofs.enter.Tie as tie
 
-abbrev start : tie.Else1 → tie.Start
-start c = c .before .before .before
+-- the security's turnover stands in the book
+known : (c : tie.Start) → c .args .entry .security < maxSecurities
+known c = listed (c .pre .accepts)
 
-size : (b : tie.Start) → Sized (view (b .args .s))
-size b = (sized (b .args .s) (b .good .0)) .day
+mul-before : tie.Need-mul-before
+mul-before c = omega (arith, known (c .before))
 
--- past the refusal no question was answered "no", so the entry can be admitted
-clear : (c : tie.Else1) →
-    let b : tie.Start = start c in
-    orderNo (view (b .args .s)) (b .args .participant) (b .args .member) (b .args .force) ≡ 0
-clear c = omega (arith, c .if1 .left, c .before .first-no .ensures)
+element-copy-out-before : tie.Need-element-copy-out-before
+element-copy-out-before c = known (c .before)
 
-admits : (c : tie.Else1) →
-    let b : tie.Start = start c in
-    let d : Day = view (b .args .s) in
-    Admissible d (entryOf d (b .args .participant) (b .args .member))
-admits c =
-    let b = start c in
-    let a = b .args in
-    admissible (view (a .s)) (size b) (b .pre .0) (a .participant) (a .member) (a .force) (clear c)
+block-need-requires : tie.Need-block-need-requires
+block-need-requires c κs = blockable (c .before .before .before .before .pre .accepts)
 
-first-no-requires : tie.Need-first-no-requires
-first-no-requires c κs = search needs
+-- the places behind the blocking, the fill, and what is known of the lots that wait
+abbrev Blocked : Type 0
+Blocked = tie.After-block-need
 
-refused-requires : tie.Need-refused-requires
-refused-requires c κs = search needs
+abbrev start : Blocked → tie.Start
+start c = c .before .before .before .before .before
 
-returns : tie.Need-returns
-returns c =
-    let k = c .before .before in
-    let b = k .before .before in
-    rw (c .refused .ensures)
-    (enters-refused (b .args .s) (b .args .participant) (b .args .member) (b .args .force) (now (b .args .trades))
-    (k .first-no .result) (c .before .if1 .taken) (k .first-no .ensures) (b .pre .0))
+abbrev Matched : Type 0
+Matched = tie.After-fill
 
-entry-of-requires : tie.Need-entry-of-requires
-entry-of-requires c κs = omega (arith, ltb-true ((start c) .args .s .codes) maxCodes ((admits c) .code))
-
-admitted-requires : tie.Need-admitted-requires
-admitted-requires c κs =
-    subst (Admissible (view ((start (c .before)) .args .s))) (sym (c .entry-of .ensures)) (admits (c .before))
+abbrev blocked : Matched → Blocked
+blocked c = c .before .before .before .before
 
 fill-requires : tie.Need-fill-requires
-unfolding admitted blockFor
 fill-requires c κs =
-    let k = c .before .before in
-    let b = start (k .before) in
-    let a = b .args in
-    let d = view (a .s) in
-    let f = flies d (size b) (b .pre .0) (a .participant) (a .member) (a .force) (clear (k .before)) in
-    let q = c .before .admitted .result in
-    let count = same-count (a .s) q (ap (λ (x : Day). x .waiting) (c .before .admitted .ensures)) in (
-      subst (λ (x : Day). InFlight x (k .entry-of .result)) (sym (c .before .admitted .ensures))
-          (subst (λ (o : Order). InFlight (admitted d o) o) (sym (k .entry-of .ensures)) f),
-      omega (arith, b .pre .1, count),
-    )
+    let k = c .before .before .before in
+    let p = (start k) .pre in
+    record {
+      rules = p .rules;
+      flies = flies (p .accepts) (k .block-need .ensures .0) (k .block-need .ensures .1);
+      lent = p .lent;
+    }
 
 with-lots-requires : tie.Need-with-lots-requires
 with-lots-requires c κs = search needs
 
-finished-requires : tie.Need-finished-requires
-finished-requires c κs =
-    let f = c .before .before .before .before in
-    let k = f .before .before .before in
-    let b = start (k .before) in
-    let a = b .args in
-    rest-finishes (view (a .s)) (size b) (b .pre .0) (a .participant) (a .member) (a .force) (clear (k .before))
-    (k .entry-of .result) (k .entry-of .ensures) _ (f .before .before .admitted .ensures) _ _ _ (f .fill .ensures) _
-    (c .before .with-lots .ensures)
-
 left-waiting-requires : tie.Need-left-waiting-requires
 left-waiting-requires c κs = search needs
 
-sub-t17 : tie.Need-sub-t17
-sub-t17 c =
-    let w = c .before .before .before .before .before in
-    let f = w .before .before .before in
-    let k = f .before .before .before in
-    let b = start (k .before) in
-    let a = b .args in
-    part (view (a .s)) (size b) (b .pre .0) (a .participant) (a .member) (a .force) (clear (k .before))
-    (k .entry-of .result) (k .entry-of .ensures) _ (f .before .before .admitted .ensures) _ _ _ (f .fill .ensures) _
-    (w .with-lots .ensures)
+mul-after : tie.Need-mul-after
+mul-after c = omega (arith, known (start (blocked (c .before .before .before .before))))
+
+element-copy-out-after : tie.Need-element-copy-out-after
+element-copy-out-after c = known (start (blocked (c .before .before .before .before)))
+
+-- the place where the lots that wait are known, and the facts of what is left
+abbrev Weighed : Type 0
+Weighed = tie.After-left-waiting
+
+abbrev matched : Weighed → Matched
+matched c = c .before .before .before .before
+
+abbrev entry : Weighed → Order
+entry c = (start (blocked (matched c))) .args .entry
+
+abbrev left : Weighed → ℕ
+left c = (matched c) .fill .result .left
+
+rest-is : (c : Weighed) → c .before .with-lots .result ≡ withLots (entry c) (left c)
+rest-is c = c .before .with-lots .ensures
+
+waits-is : (c : Weighed) →
+    let force = (start (blocked (matched c))) .args .force in
+    c .left-waiting .result ≡ leftWaiting force (withLots (entry c) (left c))
+waits-is c = c .left-waiting .ensures ∙ ap (leftWaiting ((start (blocked (matched c))) .args .force)) (rest-is c)
+
+-- what the fill did, under rules r
+done : (c : Matched) (r : Rules) →
+    let a = (start (blocked c)) .args in
+    let k = blocked c in
+    (accepts : Accepts r (a .row) (a .t1) (a .entry) (a .force) (a .money .now) (a .pieces .now)) →
+    FilledAs (fill (openDay r (k .block-need .last .0) (k .block-need .last .1 .0)
+    (coded (a .t1) (a .entry))) (a .entry)) r (a .entry) (a .trades .now) (c .fill .last .1 .1 .1 .0)
+    (c .fill .last .1 .1 .1 .1 .0) (c .fill .last .1 .1 .1 .1 .1 .0) (c .fill .result)
+done c r accepts =
+    let k = blocked c in
+    c .fill .ensures r (flies accepts (k .block-need .ensures .0) (k .block-need .ensures .1))
+
+sub-with-lots : tie.Need-sub-with-lots
+sub-with-lots c =
+    let w = c .before .before .before .before in
+    omega (arith, w .left-waiting .ensures, waits-part ((start (blocked (matched w))) .args .force) (w .before .with-lots .result))
+
+with-lots-requires-2 : tie.Need-with-lots-requires-2
+with-lots-requires-2 c κs = search needs
+
+-- what is freed
+abbrev weighed : tie.After-with-lots2 → Weighed
+weighed c = c .before .before .before .before .before
+
+dropped-is : (c : tie.After-with-lots2) →
+    let w = weighed c in
+    c .with-lots2 .result ≡ withLots (withLots (entry w) (left w)) (left w - w .left-waiting .result)
+dropped-is c =
+    let w = weighed c in
+    c .with-lots2 .ensures ∙ ap (λ (o : Order). withLots o (o .lots - w .left-waiting .result)) (rest-is w)
+
+free-need-requires : tie.Need-free-need-requires
+free-need-requires c κs =
+    let w = weighed c in
+    let k = blocked (matched w) in
+    let p = (start k) .pre in
+    rw (dropped-is c)
+    (freeable (p .accepts) (k .block-need .ensures .0) (k .block-need .ensures .1) (done (matched w) (p .rules) (p .accepts))
+    (w .left-waiting .result) (waits-is w))
+
+-- there is a place for what waits
+place : (c : tie.Then1) → (matched (weighed (c .before .before))) .fill .result .count < maxWaiting
+place c =
+    let w = weighed (c .before .before) in
+    let k = blocked (matched w) in
+    let p = (start k) .pre in
+    place-left (p .accepts) (k .block-need .ensures .0) (k .block-need .ensures .1) (done (matched w) (p .rules) (p .accepts))
+    (w .left-waiting .result) (waits-is w) (c .if1 .taken)
+
+mul-rest : tie.Need-mul-rest
+mul-rest c = omega (arith, place c)
+
+element-set-from-rest : tie.Need-element-set-from-rest
+element-set-from-rest c = place c
+
+add-book : tie.Need-add-book
+add-book c = omega (arith, place c)
 
 same-length : tie.Need-same-length
 same-length c = search needs
 
+returns : tie.Need-returns
+returns c = λ r accepts.
+    let f = c .before in
+    let w = weighed (f .before) in
+    let m = matched w in
+    let k = blocked m in
+    let b2 = m .fill .result in
+    let t = turnoverAt (b2 .turnover) ((entry w) .security) in
+    let row = (start k) .args .row in
+    let size = (sized-book b2 (m .fill .ok)) .orders in
+    rw (rest-is w)
+    (gives-waits accepts (k .block-need .ensures .0) (k .block-need .ensures .1) (done m r accepts)
+    (w .left-waiting .result) (waits-is w)
+    (f .free-need .ensures .0 ∙ ap (λ (o : Order). moneyWith release row t o (m .fill .last .1 .1 .1 .0)) (dropped-is (f .before)))
+    (f .free-need .ensures .1 ∙ ap (λ (o : Order). piecesWith release row t o (m .fill .last .1 .1 .1 .1 .0)) (dropped-is (f .before)))
+    (c .if1 .taken) (omega (arith, place c, size)))
+
+same-length-2 : tie.Need-same-length-2
+same-length-2 c = search needs
+
 returns-2 : tie.Need-returns-2
-returns-2 c =
-    let w = c .before .before .before .before .before in
-    let f = w .before .before .before in
-    let k = f .before .before .before in
-    let b = start (k .before) in
-    let a = b .args in
-    let none = clear (k .before) in
-    enters-accepted (a .s) (a .participant) (a .member) (a .force) (now (a .trades)) _ _ (size b) (b .pre .0) none
-    (gives-entered (view (a .s)) (size b) (b .pre .0) (a .participant) (a .member) (a .force) none (k .entry-of .result)
-    (k .entry-of .ensures) _ (f .before .before .admitted .ensures) _ _ _ (f .fill .ensures) _ (w .with-lots .ensures) _ _
-    (c .before .before .before .finished .ensures) (c .before .before .left-waiting .ensures))
+returns-2 c = λ r accepts.
+    let f = c .before in
+    let w = weighed (f .before) in
+    let m = matched w in
+    let k = blocked m in
+    let b2 = m .fill .result in
+    let t = turnoverAt (b2 .turnover) ((entry w) .security) in
+    let row = (start k) .args .row in
+    gives-done accepts (k .block-need .ensures .0) (k .block-need .ensures .1) (done m r accepts)
+    (w .left-waiting .result) (waits-is w)
+    (f .free-need .ensures .0 ∙ ap (λ (o : Order). moneyWith release row t o (m .fill .last .1 .1 .1 .0)) (dropped-is (f .before)))
+    (f .free-need .ensures .1 ∙ ap (λ (o : Order). piecesWith release row t o (m .fill .last .1 .1 .1 .1 .0)) (dropped-is (f .before)))
+    (omega (arith, c .if1 .left))
 
 pub enter-spec : {M : Type 1} → statement M
 enter-spec =
     tie.close
     (tie.spec
-    first-no-requires
-    refused-requires
-    returns
-    entry-of-requires
-    admitted-requires
+    mul-before
+    element-copy-out-before
+    block-need-requires
     fill-requires
     with-lots-requires
-    finished-requires
     left-waiting-requires
-    sub-t17
+    mul-after
+    element-copy-out-after
+    sub-with-lots
+    with-lots-requires-2
+    free-need-requires
+    mul-rest
+    element-set-from-rest
+    add-book
     same-length
+    returns
+    same-length-2
     returns-2)

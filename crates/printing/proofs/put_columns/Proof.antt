@@ -21,14 +21,27 @@ loop-holds c = run-starts (column-run _ _ _) _ _ _ (c .before .pre .1)
 place-of-requires : tie.Need-place-of-requires Inv-loop μ-loop
 place-of-requires c κs = search needs
 
-mul-x : tie.Need-mul-x Inv-loop μ-loop
-mul-x c = omega (arith, c .place-of .ensures)
+mul-first : tie.Need-mul-first Inv-loop μ-loop
+mul-first c = search needs
 
-array-copy-out-x : tie.Need-array-copy-out-x Inv-loop μ-loop
-array-copy-out-x c = omega (arith, c .place-of .ensures)
+mul-free : tie.Need-mul-free Inv-loop μ-loop
+mul-free c = search needs
+
+element-copy-out-free : tie.Need-element-copy-out-free Inv-loop μ-loop
+element-copy-out-free c = search needs
+
+add-blocked : tie.Need-add-blocked Inv-loop μ-loop
+add-blocked c = search needs
+
+mul-blocked : tie.Need-mul-blocked Inv-loop μ-loop
+mul-blocked c = search needs
+
+element-copy-out-blocked : tie.Need-element-copy-out-blocked Inv-loop μ-loop
+element-copy-out-blocked c = search needs
 
 put-position-requires : tie.Need-put-position-requires Inv-loop μ-loop
-put-position-requires c κs = run-room (column-run _ _ _) (c .before .before .before .before .loop .inv) (omega arith)
+put-position-requires c κs =
+    run-room (column-run _ _ _) (c .before .before .before .before .before .loop .inv) (omega arith)
 
 add-column : tie.Need-add-column Inv-loop μ-loop
 add-column c = search needs
@@ -38,8 +51,10 @@ loop-less c = search needs
 
 loop-again : tie.Need-loop-again Inv-loop μ-loop
 loop-again c =
-    run-next (column-run _ _ _) (c .before .before .before .before .before .before .before .loop .inv) (omega arith)
-    (rw (c .before .before .before .before .before .place-of .ensures) at (c .before .before .put-position .ensures))
+    let put = c .before .before in
+    let placed = put .before .before .before .before in
+    run-next (column-run _ _ _) (placed .before .before .loop .inv) (omega arith)
+    (rw (placed .place-of .ensures) at (put .put-position .ensures))
 
 same-length : tie.Need-same-length Inv-loop μ-loop
 same-length c = search needs
@@ -55,8 +70,12 @@ put-columns-spec =
     μ-loop
     loop-holds
     place-of-requires
-    mul-x
-    array-copy-out-x
+    mul-first
+    mul-free
+    element-copy-out-free
+    add-blocked
+    mul-blocked
+    element-copy-out-blocked
     put-position-requires
     add-column
     loop-less

@@ -1,8 +1,9 @@
 -- `printing::put_positions` meets its contract: the lines of money, then those of pieces.
 use native.Mathlib.Omega.{arith}
 use borrow.Author.Needs.{needs}
+use denote.Ref.{now}
 use Rattle.market.specs.Limits.{maxCurrencies, maxParticipants, maxSecurities}
-use Rattle.printing.specs.Lines.{letterM, positionLines}
+use Rattle.printing.specs.Lines.{letterM, positionLinesOf}
 use Rattle.printing.proofs.Buffer.{puts-then}
 use Rattle.printing.proofs.Runs.{participants-length, participants-room}
 use Rattle.printing.proofs.put_positions.Statement.{statement}
@@ -10,20 +11,20 @@ use Rattle.printing.proofs.put_positions.Tie as tie
 
 put-participants-requires : tie.Need-put-participants-requires
 put-participants-requires c κs =
-    let known = c .before .before .before .before .pre .0 in (
+    let known = c .before .before .pre .0 in (
       (known .0, omega arith),
       omega (arith, participants-room maxParticipants maxCurrencies (known .0) (known .1)),
     )
 
 put-participants-requires-2 : tie.Need-put-participants-requires-2
 put-participants-requires-2 c κs =
-    let start = c .before .before .before .before .before .before .before .before in
+    let start = c .before .before .before .before .before .before in
     let known = start .pre .0 in (
       (known .0, known .2),
       omega (
         arith,
         c .before .before .before .put-participants .ensures,
-        participants-length maxParticipants maxCurrencies (known .0) (known .1) letterM (start .args .s .money),
+        participants-length maxParticipants maxCurrencies (known .0) (known .1) letterM (now (start .args .money)),
         participants-room maxParticipants maxSecurities (known .0) (known .2),
       ),
     )
@@ -32,7 +33,7 @@ same-length : tie.Need-same-length
 same-length c = search needs
 
 returns : tie.Need-returns
-unfolding positionLines
+unfolding positionLinesOf
 returns c =
     puts-then (c .before .before .before .before .before .before .put-participants .ensures)
     (c .before .before .put-participants2 .ensures)

@@ -34,8 +34,8 @@ returns-3 c =
     group-missing _ _ (e .before .before .before .pre) _ _ (e .before .if1 .left) (e .if2 .left) _ (m .members-at .ensures)
     (not-true _ (c .before .if3 .taken)) _ (c .single3 .ensures)
 
-add-t12 : tie.Need-add-t12
-add-t12 c = search needs
+add-t15 : tie.Need-add-t15
+add-t15 c = search needs
 
 returns-4 : tie.Need-returns-4
 returns-4 c =
@@ -55,5 +55,5 @@ group-at-spec =
     members-at-requires
     single-requires-3
     returns-3
-    add-t12
+    add-t15
     returns-4)

@@ -23,8 +23,8 @@ returns c =
 line-at-requires : tie.Need-line-at-requires Inv-loop μ-loop
 line-at-requires c κs = c .before .before .loop .inv .inside
 
-enum-known-command : tie.Need-enum-known-command Inv-loop μ-loop
-enum-known-command c = c .match .keys1
+enum-known-says : tie.Need-enum-known-says Inv-loop μ-loop
+enum-known-says c = c .match .keys1
 
 returns-2 : tie.Need-returns-2 Inv-loop μ-loop
 returns-2 c =
@@ -59,7 +59,7 @@ loop-again c =
     let l = c .before .before .before in
     let k = inside c in
     member-line _ _ _ _ _ _ (k .before .loop .inv) (k .loop-test .taken) (l .before .if1 .left) _ _ (l .line-at .ensures) _
-    (c .before .command .given .1)
+    (c .before .says .given .1)
 
 returns-3 : tie.Need-returns-3 Inv-loop μ-loop
 returns-3 c = members-end _ _ _ _ _ _ (c .before .loop .inv) (c .loop-test .left)
@@ -73,7 +73,7 @@ members-at-spec =
     loop-holds
     returns
     line-at-requires
-    enum-known-command
+    enum-known-says
     returns-2
     mul-list
     array-set-from-list

@@ -1,0 +1,4 @@
+pub mod Rounds
+pub mod Placing
+pub mod Carrying
+pub mod Loop

@@ -1,0 +1,106 @@
+-- A command in the loop: by what came of its line before any waiting order was read.
+use Prim.Native.Nat.{ℕ}
+use native.Mathlib.Omega.{arith}
+use mathlib.Core.Path.{_≡_, refl, sym, ap, subst, _∙_}
+use mathlib.Core.List.{List}
+use mathlib.Core.Bool.{true, false}
+use lib.ListN.{length}
+use Rattle.market.specs.declared.Answer.{Answer}
+use Rattle.market.specs.declared.Answer.the-variants.{Done, Refused}
+use Rattle.market.specs.declared.Call as code
+use Rattle.market.specs.declared.Carried.{Carried}
+use Rattle.market.specs.declared.Order.{Order}
+use Rattle.market.specs.declared.OrderBook.{OrderBook}
+use Rattle.market.specs.declared.Phase.{Phase}
+use Rattle.market.specs.declared.Rules.{Rules}
+use Rattle.market.specs.declared.Security.{Security}
+use Rattle.market.specs.declared.Ticket.{Ticket}
+use Rattle.market.specs.declared.TimeInForce.{TimeInForce}
+use Rattle.market.specs.Limits.{lentAtLeast}
+use Rattle.market.specs.Day.{row}
+use Rattle.market.specs.View.{dayOf}
+use Rattle.market.specs.Questions.{entryQuestions, firstNo}
+use Rattle.market.specs.Parts.{Carries, Ready, callOf}
+use Rattle.lines.specs.declared.Line.{Line}
+use Rattle.matching.specs.Orders.{waitingIn}
+use Rattle.orders.specs.Entering.{Enterable, Enters, entryWith, fillableIn}
+use Rattle.orders.proofs.Calling.{enterable, few-lots, order-enters, refuse-whole, rules-known}
+use Rattle.reserves.proofs.Moving.{movable}
+use Rattle.commands.specs.declared.Asked.{Asked}
+use Rattle.commands.specs.declared.Asked.the-variants as verdict
+use Rattle.commands.specs.Command.{Does, carried}
+use Rattle.commands.specs.Asked.{Askable, Asks}
+use Rattle.commands.proofs.Carrying.{does-call}
+
+module _ (says : Line) (ms : List Ticket) (r : Rules) (x : Phase) (m k : List ℕ) (b : OrderBook) (l : List ℕ)
+    (ready : Ready r x m k b) (lent : length l ≡ lentAtLeast) where
+  abbrev Line-does : (m′ k′ l′ : List ℕ) → Carried → Type 0
+  Line-does m′ k′ l′ o = Does (carried (dayOf r x m k b) says ms) r l m′ k′ l′ o
+
+  abbrev asks : (m′ k′ : List ℕ) → Asked → Type 0
+  asks m′ k′ a = Asks says r x (b .turnover) (b .count) (b .codes) m k m′ k′ a
+
+  pub askable : Askable r (b .codes) m k
+  askable = record { known = rules-known r x m k b ready; movable = movable r x m k b ready }
+
+  -- it is answered already
+  pub does-answered : (m′ k′ : List ℕ) (v : Asked) (a : Answer) → asks m′ k′ v → v ≡ verdict.Answered a
+      → Line-does m′ k′ l (record { answer = a; phase = x; book = b })
+  does-answered m′ k′ v a h e = (subst (asks m′ k′) e h) b l ms refl refl refl ready lent
+
+  -- it is an order that passed its questions 4 to 14
+  module _ (m′ k′ : List ℕ) (v : Asked) (e : Order) (w : Security) (f : TimeInForce) (h : asks m′ k′ v)
+      (told : v ≡ verdict.Enters e w f) where
+    admits : asks m′ k′ (verdict.Enters e w f)
+    admits = subst (asks m′ k′) told h
+
+    none : firstNo (entryQuestions (dayOf r x m k b) (admits .2 .participant) (admits .2 .ticket) f) ≡ 0
+    none = sym ((admits .2 .asked) b refl refl refl)
+
+    pub does-refuse : fillableIn f (waitingIn b) e ≡ false
+        → Line-does m′ k′ l (record { answer = Refused 15 0; phase = x; book = b })
+    unfolding carried
+    does-refuse short =
+        let a = admits .2 in
+        rw (admits .0, admits .1, a .said)
+        (does-call r x m k b l _ m k l _ ready lent
+        (refuse-whole r x m k b ready (a .participant) (a .ticket) f l (omega (arith, lent)) none (a .entry) short))
+
+    module _ (whole : fillableIn f (waitingIn b) e ≡ true) where
+      pub can-enter : Enterable w b e f m′ k′ l
+      can-enter =
+          let a = admits .2 in
+          rw (admits .0, admits .1, a .row)
+          (enterable r x m k b ready (a .participant) (a .ticket) f l (omega (arith, lent)) none (a .entry) whole)
+
+      pub does-enter : (m″ k″ l″ : List ℕ) (b′ : OrderBook) → Enters w b e f m′ k′ l m″ k″ l″ b′
+          → Line-does m″ k″ l″
+          (record { answer = Done (b′ .codes) (b′ .filled) (b′ .left) (b′ .trades); phase = x; book = b′ })
+      unfolding carried
+      does-enter m″ k″ l″ b′ enters =
+          let a = admits .2 in
+          rw (a .said)
+          (does-call r x m k b l _ m″ k″ l″ _ ready lent
+          (order-enters r x m k b ready (a .participant) (a .ticket) f l (omega (arith, lent)) none (a .entry) whole m″ k″ l″ b′
+          (rw (admits .0, admits .1, a .row) at enters)))
+
+  -- it is another call
+  module _ (m′ k′ : List ℕ) (v : Asked) (c : code.Call) (h : asks m′ k′ v) (told : v ≡ verdict.Other c) where
+    other : asks m′ k′ (verdict.Other c)
+    other = subst (asks m′ k′) told h
+
+    pub other-ready : Ready r x m′ k′ b
+    other-ready = rw (other .0, other .1) ready
+
+    pub does-other : (m″ k″ l″ : List ℕ) (o : Carried) → Carries r x m′ k′ b l (callOf c ms) m″ k″ l″ o
+        → Line-does m″ k″ l″ o
+    unfolding carried
+    does-other m″ k″ l″ o carries =
+        rw (other .2)
+        (does-call r x m k b l (callOf c ms) m″ k″ l″ o ready lent (rw (other .0, other .1) at carries))
+
+-- where the ways of a command meet
+pub meet : (P : List ℕ → List ℕ → List ℕ → Carried → Type 0) {m m₁ k k₁ l l₁ : List ℕ} {b b₁ : OrderBook} {x x₁ : Phase}
+    {a a₁ : Answer} → m ≡ m₁ → k ≡ k₁ → l ≡ l₁ → b ≡ b₁ → x ≡ x₁ → a ≡ a₁
+    → P m₁ k₁ l₁ (record { answer = a₁; phase = x₁; book = b₁ }) → P m k l (record { answer = a; phase = x; book = b })
+meet P em ek el eb ex ea p = rw (em, ek, el, eb, ex, ea) p

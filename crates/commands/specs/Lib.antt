@@ -1,0 +1,4 @@
+pub mod Command
+pub mod Output
+pub mod Stand
+pub mod Asked

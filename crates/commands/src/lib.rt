@@ -1,0 +1,237 @@
+// The commands of a day file, carried out one after another on the parts of a sound day; what they print is put into a
+// lent buffer.
+use calls::carry_out;
+use heading::MALFORMED;
+use lines::Line;
+use market::Answer;
+use market::Call;
+use market::Order;
+use market::OrderBook;
+use market::Phase;
+use market::Rules;
+use market::Security;
+use market::Ticket;
+use market::TimeInForce;
+use market::Turnover;
+use orders::enter;
+use orders::entry_of;
+use orders::is_fillable;
+use orders::order_no;
+use printing::put_answer;
+use printing::put_trades;
+use reading::command_at;
+use reserves::answer_of;
+use reserves::moved;
+ghost use mathlib.Core.Path.{_≡_};
+ghost use mathlib.Core.List.{_++_};
+ghost use Prim.Native.Nat.{_+_, _≤_};
+ghost use lib.ListN.{length};
+ghost use Rattle.market.specs.Limits.{lentAtLeast, maxTrades};
+ghost use Rattle.market.specs.Answers.{numbersOf};
+ghost use Rattle.lines.specs.declared.Line.the-variants as line;
+ghost use Rattle.market.specs.declared.Call.the-variants as call;
+ghost use Rattle.orders.specs.Entering.{Known};
+ghost use Rattle.printing.specs.Buffer.{Puts};
+ghost use Rattle.printing.specs.Lines.{answerLine, flatLines};
+ghost use Rattle.commands.specs.Stand.{Going, Runs, goesOn, room};
+ghost use Rattle.commands.specs.Asked.{Askable, Asks};
+
+// Question 15.
+const UNFILLABLE: u64 = 15;
+
+// What a command, or the last positions, take of the buffer at most.
+pub const ROOM: usize = 32768;
+
+// What of a run changes from command to command besides positions: order book and phase, the place where the text goes
+// on and the number of its line there, and how much of the buffer is filled.
+pub struct Stand {
+    pub book: OrderBook,
+    pub phase: Phase,
+    pub at: usize,
+    pub line: u64,
+    pub filled: usize,
+}
+
+// What comes of a line where no waiting order has to be read.
+pub enum Asked {
+    // Answered: a malformed line or one out of its place, a move of reserves, an order refused by questions 4 to 14.
+    Answered(Answer),
+    // An order whose questions 4 to 14 are answered "yes", with the row of its security.
+    Enters(Order, Security, TimeInForce),
+    // Any other call.
+    Other(Call),
+}
+
+// A command's answer and its trades, from place `at` of the buffer on.
+fn put_command(out: &mut [u8], at: usize, line: u64, answer: Answer, trades: &[u64]) -> usize
+    requires { ⌜ at + room ≤ length (now out) ⌝ }
+    requires { ⌜ length (now trades) ≡ lentAtLeast ⌝ }
+    requires { ⌜ (numbersOf answer) .trades ≤ maxTrades ⌝ }
+    ensures { λ r. ⌜ Puts (now (out .entry)) at (answerLine line answer ++ flatLines ((numbersOf answer) .trades) (now (trades .entry))) (now (out .exit)) r ⌝ }
+{
+    let end = put_answer(out, at, line, answer);
+    match answer {
+        Answer::Refused(_, _) => end,
+        Answer::Done(_, _, _, count) => put_trades(out, end, trades, count),
+    }
+}
+
+// An order's questions 4 to 14.
+fn order_asked<'a>(
+    rules: Rules,
+    phase: Phase,
+    turnovers: [Turnover; 16],
+    count: usize,
+    codes: u64,
+    money: &'a [u64; 512],
+    pieces: &'a [u64; 512],
+    participant: u64,
+    ticket: Ticket,
+    force: TimeInForce,
+) -> Asked
+    requires { ⌜ Known rules codes ⌝ }
+    ensures { λ r. ⌜ Asks (line.Call (call.Order participant ticket force)) rules phase turnovers count codes (now (money .entry)) (now (pieces .entry)) (now (money .entry)) (now (pieces .entry)) r ⌝ }
+{
+    let number = order_no(
+        rules,
+        phase,
+        turnovers,
+        count,
+        codes,
+        money,
+        pieces,
+        participant,
+        ticket,
+        force,
+    );
+    if 0 < number {
+        return Asked::Answered(Answer::Refused(number, 0));
+    }
+    let table = rules.table;
+    let row = table[ticket.security as usize];
+    let entry = entry_of(codes, participant, ticket);
+    Asked::Enters(entry, row, force)
+}
+
+fn without_orders(
+    says: Line,
+    rules: Rules,
+    phase: Phase,
+    turnovers: [Turnover; 16],
+    count: usize,
+    codes: u64,
+    money: &mut [u64; 512],
+    pieces: &mut [u64; 512],
+) -> Asked
+    requires { ⌜ Askable rules codes (now money) (now pieces) ⌝ }
+    ensures { λ r. ⌜ Asks says rules phase turnovers count codes (now (money .entry)) (now (pieces .entry)) (now (money .exit)) (now (pieces .exit)) r ⌝ }
+{
+    let Line::Call(call) = says else {
+        return Asked::Answered(Answer::Refused(MALFORMED, 0));
+    };
+    if let Call::Reserve(m) = call {
+        return Asked::Answered(answer_of(moved(rules, m, money, pieces)));
+    }
+    if let Call::Order(participant, ticket, force) = call {
+        return order_asked(
+            rules,
+            phase,
+            turnovers,
+            count,
+            codes,
+            &*money,
+            &*pieces,
+            participant,
+            ticket,
+            force,
+        );
+    }
+    Asked::Other(call)
+}
+
+// Are there a command and room for it?
+fn goes_on(length: usize, at: usize, size: usize, filled: usize) -> bool
+    requires { ⌜ room ≤ size ⌝ }
+    ensures { λ r. ⌜ r ≡ goesOn length at size filled ⌝ }
+{
+    if length <= at {
+        return false;
+    }
+    filled <= size - ROOM
+}
+
+// The commands of a text one after another, as long as the buffer has room. An order, the commonest call, is entered
+// here: through `carry_out` the waiting orders would be copied twice as often, and for a refusal too. So this function
+// is longer than others.
+pub fn commands(
+    text: &[u8],
+    from: Stand,
+    rules: Rules,
+    money: &mut [u64; 512],
+    pieces: &mut [u64; 512],
+    out: &mut [u8],
+) -> Stand
+    requires { ⌜ Going (now text) rules (now money) (now pieces) from ⌝ }
+    requires { ⌜ (room ≤ length (now out)) × (from .filled ≤ length (now out)) ⌝ }
+    ensures { λ r. ⌜ Runs (now (text .entry)) rules (now (money .entry)) (now (pieces .entry)) from (now (out .entry)) (now (money .exit)) (now (pieces .exit)) r (now (out .exit)) ⌝ }
+{
+    let mut trades = [0u64; 1088];
+    let mut book = from.book;
+    let mut phase = from.phase;
+    let mut at = from.at;
+    let mut line = from.line;
+    let mut filled = from.filled;
+    while goes_on(text.len(), at, out.len(), filled) {
+        let reading = command_at(text, at);
+        let says = reading.says;
+        let turnovers = book.turnover;
+        let verdict = without_orders(
+            says,
+            rules,
+            phase,
+            turnovers,
+            book.count,
+            book.codes,
+            money,
+            pieces,
+        );
+        let mut answer = Answer::Refused(UNFILLABLE, 0);
+        match verdict {
+            Asked::Answered(known) => {
+                answer = known;
+            }
+            Asked::Enters(entry, row, force) => {
+                if is_fillable(book, force, entry) {
+                    book = enter(book, entry, force, row, money, pieces, &mut trades);
+                    answer = Answer::Done(book.codes, book.filled, book.left, book.trades);
+                }
+            }
+            Asked::Other(call) => {
+                let members = reading.members;
+                let carried = carry_out(
+                    book,
+                    rules,
+                    phase,
+                    call,
+                    members,
+                    money,
+                    pieces,
+                    &mut trades,
+                );
+                answer = carried.answer;
+                phase = carried.phase;
+                book = carried.book;
+            }
+        }
+        filled = put_command(out, filled, line, answer, &trades);
+        at = reading.next;
+        line = line + reading.lines;
+    }
+    Stand {
+        book,
+        phase,
+        at,
+        line,
+        filled,
+    }
+}

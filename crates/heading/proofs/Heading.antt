@@ -1,0 +1,134 @@
+-- The heading of a text: a first line that is no `H`, a fault in its `S` lines, or the answer of the opening.
+use Prim.Native.Nat.{ℕ, zero, suc, _+_, _≤_, _<_}
+use native.Mathlib.Numerals.{add-one}
+use native.Mathlib.Omega.{arith}
+use mathlib.Core.Path.{_≡_, refl, ap, sym, _∙_}
+use mathlib.Core.List.{List, []}
+use mathlib.Core.Bool.{Bool, true, false, cond}
+use lib.ListN.{drop}
+use types.Run.{miss}
+use Rattle.market.specs.declared.Outcome.{Outcome}
+use Rattle.market.specs.declared.Rules.{Rules}
+use Rattle.market.specs.Limits.{maxSecurities}
+use Rattle.market.specs.Day.{row}
+use Rattle.market.specs.Sound.{countsSound, rowSound, rulesSound, sound}
+use Rattle.market.specs.Answers.{isDone, numbersOf}
+use Rattle.market.specs.Opening.{firstWrong, opening, openingBy}
+use Rattle.market.specs.Contract.{Opens}
+use Rattle.market.proofs.Logic.{and-true, never, within-low}
+use Rattle.market.proofs.Opening.{accepted}
+use Rattle.conservation.specs.Statement.{dayAfter}
+use Rattle.conservation.proofs.Demand.{sound-reached}
+use Rattle.lines.specs.declared.Line.{Line}
+use Rattle.lines.specs.declared.Line.the-variants as line
+use Rattle.reading.specs.declared.Reading.{Reading}
+use Rattle.reading.specs.Commands.{Reads}
+use Rattle.reading.proofs.Tags.{OtherLine, otherLines}
+use Rattle.heading.specs.declared.Headed as code
+use Rattle.heading.specs.declared.Securities.{Securities}
+use Rattle.heading.specs.Heading.{Headed, ReadsHeading, ReadsSecurities, WrongHeading, fault, headedBy}
+use Rattle.heading.specs.Heading.{heading, linesIn, openedBy, read}
+use Rattle.heading.proofs.SecurityLines.{lines-fault}
+
+-- the place of an opening's refusal is one of its securities
+wrong-within : (r : Rules) (n s : ℕ) → firstWrong r n s ≤ s + n
+unfolding firstWrong
+wrong-within r zero s = omega arith
+wrong-within r (suc n) s = go (rowSound (r .currencies) (row r s)) (wrong-within r n (suc s))
+  where
+    go : (b : Bool) → firstWrong r n (suc s) ≤ suc s + n → cond b (firstWrong r n (suc s)) (suc s) ≤ s + suc n
+    go true h = omega arith
+    go false h = omega arith
+
+opening-place : (r : Rules) → (numbersOf ((opening r) .answer)) .place ≤ r .securities
+unfolding opening
+opening-place r =
+    go (countsSound (r .participants) (r .currencies) (r .securities)) (firstWrong r (r .securities) 0)
+    (omega (arith, wrong-within r (r .securities) 0))
+  where
+    go : (b : Bool) (n : ℕ) → n ≤ r .securities → (numbersOf ((openingBy r b n) .answer)) .place ≤ r .securities
+    go false n h = omega arith
+    go true zero h = omega arith
+    go true (suc n) h = h
+
+pub place-small : {r : Rules} {o : Outcome} → Opens r o → (numbersOf (o .answer)) .place ≤ r .securities
+place-small {r} opens = rw (opens .answer) (opening-place r)
+
+-- an accepted opening has a security, and its day is sound
+opening-some : (r : Rules) → isDone ((opening r) .answer) ≡ true → 0 < r .securities
+unfolding rulesSound countsSound
+opening-some r done =
+    let counts = and-true ((accepted r done) .rules .sound) in
+    within-low 1 maxSecurities (r .securities) ((and-true ((and-true (counts .0)) .1)) .1)
+
+opening-sound : (r : Rules) → isDone ((opening r) .answer) ≡ true → sound ((opening r) .day) ≡ true
+unfolding dayAfter
+opening-sound r done = sound-reached r done []
+
+abbrev headingTag : ℕ
+headingTag = 1
+
+-- a first line that is no heading
+no-heading : (says : Line) (t : List ℕ) → OtherLine headingTag says → headedBy says t ≡ fault 1
+no-heading (line.Call c) t h = refl
+no-heading (line.Heading p c s) t h = absurd (miss (otherLines headingTag) headingTag tt h)
+no-heading (line.Security a b c) t h = refl
+no-heading (line.Member m) t h = refl
+no-heading line.Malformed t h = refl
+
+reads-fault : {text : List ℕ} {n : ℕ} {r : code.Headed} → heading text ≡ fault n → WrongHeading n r
+    → ReadsHeading text r
+reads-fault {text} {n} {r} e w = record {
+  line = w .line ∙ ap (λ (h : Headed). h .line) (sym e);
+  answer = w .answer ∙ ap (λ (h : Headed). h .answer) (sym e);
+  day = w .day ∙ ap (λ (h : Headed). h .day) (sym e);
+  rest = λ done. never (refuses done);
+  next = λ done. never (refuses done);
+  inside = λ done. never (refuses done);
+  sound = λ done. never (refuses done);
+  few = λ done. never (refuses done);
+}
+  where
+    refuses : isDone (r .outcome .answer) ≡ true → false ≡ true
+    refuses done = ap isDone (sym (w .answer)) ∙ done
+
+module _ {text : List ℕ} {first : Reading} (reads : Reads text 0 first) where
+  heading-reads : heading text ≡ headedBy (first .says) (drop (first .next) text)
+  unfolding heading
+  heading-reads = rw (reads .says, reads .rest)
+
+  pub heading-other : {r : code.Headed} → OtherLine headingTag (first .says) → WrongHeading 1 r → ReadsHeading text r
+  heading-other other w = reads-fault (heading-reads ∙ no-heading (first .says) _ other) w
+
+  module _ {p c s : ℕ} (e : first .says ≡ line.Heading p c s) {lines : Securities}
+      (l : ReadsSecurities text (first .next) s lines) where
+    heading-lines : heading text ≡ openedBy p c s (linesIn (lines .fault) (lines .table) (drop (lines .next) text))
+    heading-lines = heading-reads ∙ rw (e, l .lines)
+
+    pub heading-fault : {r : code.Headed} → (lines .fault ≡ 0 → ⊥) → WrongHeading (lines .fault) r
+        → ReadsHeading text r
+    heading-fault some w =
+        reads-fault (heading-lines ∙ ap (openedBy p c s) (lines-fault (lines .fault) (lines .table) _ some)) w
+
+    abbrev rules : Rules
+    rules = record { participants = p; currencies = c; securities = s; table = lines .table }
+
+    module _ (none : lines .fault ≡ 0) {o : Outcome} (opens : Opens rules o) where
+      pub heading-opens : {place : ℕ} → place ≡ (numbersOf (o .answer)) .place
+          → ReadsHeading text (record { outcome = o; line = place + 1; next = s + 2; at = lines .next })
+      heading-opens {place} same =
+          let h : heading text ≡ openedBy p c s (read (lines .table) (drop (lines .next) text)) =
+          heading-lines ∙ rw none in
+          record {
+            line = rw (h, same, opens .answer) (add-one _);
+            answer = rw h (opens .answer);
+            day = rw h (opens .state);
+            rest = λ done. rw h;
+            next = λ done. rw h;
+            inside = λ done. l .inside none (opening-some rules (accepts done));
+            sound = λ done. rw (opens .state) (opening-sound rules (accepts done));
+            few = λ done. omega (arith, (accepted rules (accepts done)) .rules .securities);
+          }
+        where
+          accepts : isDone (o .answer) ≡ true → isDone ((opening rules) .answer) ≡ true
+          accepts done = rw (opens .answer) at done

@@ -1,0 +1,2 @@
+pub mod SecurityLines
+pub mod Heading

@@ -1,0 +1,55 @@
+-- A State, and the parts of one, seen as a day; machinery of the contracts, not of the rules.
+use Prim.Native.Nat.{ℕ, zero, suc}
+use mathlib.Core.List.{List, [], _∷_}
+use mathlib.Core.Path.{_≡_}
+use lib.ListN.{length}
+use Rattle.market.specs.declared.Order.{Order}
+use Rattle.market.specs.declared.OrderBook.{OrderBook}
+use Rattle.market.specs.declared.Phase.{Phase}
+use Rattle.market.specs.declared.Rules.{Rules}
+use Rattle.market.specs.declared.State.{State}
+use Rattle.market.specs.Limits.{maxSecurities, positionNumbers}
+use Rattle.market.specs.Day.{Day, noOrder}
+
+-- "Places past the counts aren't read": the first n orders, blank past the array's end, so that a count above 128
+-- shows as a list that is too long
+abbrev pub firstOrders : ℕ → List Order → List Order
+firstOrders zero w = []
+firstOrders (suc n) [] = noOrder ∷ firstOrders n []
+firstOrders (suc n) (o ∷ w) = o ∷ firstOrders n w
+
+-- the day that a State holds
+abbrev pub view : State → Day
+view s = record {
+  rules = record {
+    participants = s .participants;
+    currencies = s .currencies;
+    securities = s .securities;
+    table = s .table;
+  };
+  money = s .money;
+  pieces = s .pieces;
+  waiting = firstOrders (s .count) (s .orders);
+  codes = s .codes;
+  phase = s .phase;
+  turnover = s .turnover;
+}
+
+-- the day that positions and an order book make up, under these rules, in this phase
+abbrev pub dayOf : Rules → Phase → List ℕ → List ℕ → OrderBook → Day
+dayOf r x money pieces b = record {
+  rules = r;
+  money = money;
+  pieces = pieces;
+  waiting = firstOrders (b .count) (b .orders);
+  codes = b .codes;
+  phase = x;
+  turnover = b .turnover;
+}
+
+-- the arrays of a State have these lengths
+pub record Sized (d : Day) : Type 0 where
+  pub table : length (d .rules .table) ≡ maxSecurities
+  pub money : length (d .money) ≡ positionNumbers
+  pub pieces : length (d .pieces) ≡ positionNumbers
+  pub turnover : length (d .turnover) ≡ maxSecurities

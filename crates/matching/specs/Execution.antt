@@ -1,0 +1,75 @@
+-- What one trade asks of the parts of a day, and what it does to them. The parts of a trade's security are its row l and
+-- its Q and T, t.
+use Prim.Native.Nat.{ℕ, _+_, _*_, _-_, _≤_, _<_}
+use mathlib.Core.Path.{_≡_}
+use mathlib.Core.List.{List}
+use lib.ListN.{length}
+use Rattle.market.specs.declared.Order.{Order}
+use Rattle.market.specs.declared.Security.{Security}
+use Rattle.market.specs.declared.Turnover.{Turnover}
+use Rattle.market.specs.Limits.{columns, maxCodes, maxLot, maxLots, maxPieces, maxPrice, numbersPerTrade}
+use Rattle.market.specs.Day.{place, withLots}
+use Rattle.market.specs.Needs.{blocks, closingPrice, piecesOf, priceOr, sumFor}
+use Rattle.market.specs.Positions.{change, counting, pay, receive}
+use Rattle.positions.specs.Payable.{Payable}
+use Rattle.matching.specs.Written.{tradeAs, tradeWritten}
+
+-- what an order needs
+abbrev pub needWith : Security → Turnover → Order → ℕ
+needWith l t o = blocks (o .side) l (priceOr (closingPrice t) (o .kind)) (o .lots)
+
+-- by how much that falls when n lots come off it
+abbrev pub fallWith : Security → Turnover → Order → ℕ → ℕ
+fallWith l t o n = needWith l t o - needWith l t (withLots o (o .lots - n))
+
+-- the need of an order can be reckoned, and so can its fall by n lots
+pub record Reckoned (l : Security) (t : Turnover) (o : Order) (n : ℕ) : Type 0 where
+  pub lot : l .lot ≤ maxLot
+  pub limit : priceOr (closingPrice t) (o .kind) ≤ maxPrice
+  pub top : o .lots ≤ maxLots
+  pub part : n ≤ o .lots
+
+-- Q and T are within what a day can trade, and so are these pieces and this sum within what a trade can
+pub record Countable (t : Turnover) (pieces sum : ℕ) : Type 0 where
+  pub roomQ : t .pieces ≤ maxPieces * maxCodes
+  pub roomT : t .money ≤ maxPrice * (maxPieces * maxCodes)
+  pub few : pieces ≤ maxPieces
+  pub low : sum ≤ maxPrice * maxPieces
+
+-- the money after a trade whose sum is this, where the buyer's need falls by fall
+abbrev pub moneyAfter : Security → Order → Order → ℕ → ℕ → List ℕ → List ℕ
+moneyAfter l b s fall sum m =
+    change (change m (place (b .participant) (l .currency)) (pay fall sum)) (place (s .participant) (l .currency))
+    (receive sum)
+
+-- the pieces after it, of which this many are sold
+abbrev pub piecesAfter : Order → Order → ℕ → List ℕ → List ℕ
+piecesAfter b s sold m =
+    change (change m (place (s .participant) (b .security)) (pay sold sold)) (place (b .participant) (b .security))
+    (receive sold)
+
+-- a buy b can pay a sell s the sum, and the sell deliver what is sold
+pub record Settles (l : Security) (b s : Order) (fall sum sold : ℕ) (m k : List ℕ) : Type 0 where
+  pub buyer : b .participant < columns
+  pub seller : s .participant < columns
+  pub security : b .security < columns
+  pub currency : l .currency < columns
+  pub money : Payable m (place (b .participant) (l .currency)) fall sum (place (s .participant) (l .currency))
+  pub pieces : Payable k (place (s .participant) (b .security)) sold sold (place (b .participant) (b .security))
+
+-- they can trade n lots at price p, as trade number i of the lent list v
+pub record Executable (l : Security) (t : Turnover) (b s : Order) (p n i : ℕ) (m k v : List ℕ) : Type 0
+  where
+    pub settles : Settles l b s (fallWith l t b n) (sumFor l p n) (piecesOf l n) m k
+    pub reckoned : Reckoned l t b n
+    pub price : p ≤ maxPrice
+    pub counts : Countable t (piecesOf l n) (sumFor l p n)
+    pub lent : numbersPerTrade * i + numbersPerTrade ≤ length v
+
+-- and have traded them: positions, trade list, and Q and T with the trade
+pub record Executes (l : Security) (t : Turnover) (b s : Order) (p n i : ℕ) (m k v m′ k′ v′ : List ℕ)
+    (r : Turnover) : Type 0 where
+  pub money : m′ ≡ moneyAfter l b s (fallWith l t b n) (sumFor l p n) m
+  pub pieces : k′ ≡ piecesAfter b s (piecesOf l n) k
+  pub list : v′ ≡ tradeWritten i (tradeAs b s p n (sumFor l p n)) v
+  pub turnover : r ≡ counting (piecesOf l n) (sumFor l p n) t

@@ -1,0 +1,98 @@
+-- What the questions of an order tell, on the parts of a sound day.
+use Prim.Native.Nat.{ℕ, _≤_, _<_}
+use native.Mathlib.Omega.{arith}
+use mathlib.Core.Path.{_≡_, ap, sym, _∙_, subst}
+use mathlib.Core.List.{List, [], _∷_}
+use mathlib.Core.Bool.{true, false}
+use borrow.Author.Tests.{leb-true, ltb-true}
+use Rattle.market.specs.declared.Ticket.{Ticket}
+use Rattle.market.specs.declared.Order.{Order}
+use Rattle.market.specs.declared.OrderBook.{OrderBook}
+use Rattle.market.specs.declared.Phase.{Phase}
+use Rattle.market.specs.declared.Phase.the-variants.{Open}
+use Rattle.market.specs.declared.Rules.{Rules}
+use Rattle.market.specs.declared.TimeInForce.{TimeInForce}
+use Rattle.market.specs.Limits.{maxCodes, maxLots, maxSecurities}
+use Rattle.market.specs.Day.{Day, row}
+use Rattle.market.specs.View.{dayOf}
+use Rattle.market.specs.Questions.{Question, ask, entryQuestions, firstNo, orderQuestions}
+use Rattle.market.proofs.Lists.{all-map}
+use Rattle.market.proofs.Questions.{AllYes, all-yes, hides, passes, yes}
+use Rattle.market.proofs.Known.{OrderOk, open-phase}
+use Rattle.market.proofs.View.{first-length}
+use Rattle.invariant.specs.Standing.{Standing}
+use Rattle.matching.specs.Filling.{openDay}
+use Rattle.matching.specs.Orders.{FewLots, waitingIn}
+use Rattle.orders.specs.Entering.{Accepts, Known, entryWith, fillableIn, orderNo}
+use Rattle.orders.proofs.Asking.{whole-last}
+
+module _ (r : Rules) (x : Phase) (m k : List ℕ) (b : OrderBook) (standing : Standing (dayOf r x m k b)) where
+  abbrev d : Day
+  d = dayOf r x m k b
+
+  pub codes-given : b .codes ≤ maxCodes
+  codes-given = leb-true (b .codes) maxCodes (standing .limit)
+
+  pub rules-known : Known r (b .codes)
+  rules-known = record { rules = standing .backed .rulesOk; codes = codes-given }
+
+  pub few-lots : FewLots (b .count) (waitingIn b)
+  few-lots = record {
+    room = omega (arith, standing .room, first-length (b .count) (b .orders));
+    lots = all-map (OrderOk r) (λ o. o .lots ≤ maxLots) (waitingIn b) (λ o ok. ok .top) (standing .orders);
+  }
+
+  -- an order
+  module _ (p : ℕ) (t : Ticket) (f : TimeInForce) where
+    abbrev asked : List Question
+    asked = entryQuestions d p t f
+
+    abbrev last : List Question
+    last = ask 15 (fillableIn f (waitingIn b) (entryWith (b .codes) p t)) ∷ []
+
+    -- a "no" before question 15
+    pub no-first : (n : ℕ) → 0 < n → n ≡ firstNo asked → orderNo d p t f ≡ n
+    no-first n h e = whole-last r x m k b p t f ∙ hides asked last (omega arith) ∙ sym e
+
+    -- there is none, and question 15 is asked of the entry e
+    module _ (none : firstNo asked ≡ 0) {e : Order} (entry : e ≡ entryWith (b .codes) p t) where
+      to-last : orderNo d p t f ≡ firstNo last
+      to-last = whole-last r x m k b p t f ∙ passes asked last (all-yes asked tt none)
+
+      pub no-whole : fillableIn f (waitingIn b) e ≡ false → orderNo d p t f ≡ 15
+      no-whole h = to-last ∙ rw (← entry, h)
+
+      pub no-none : fillableIn f (waitingIn b) e ≡ true → orderNo d p t f ≡ 0
+      no-none h = to-last ∙ rw (← entry, h)
+
+    -- all are answered "yes"
+    module _ (none : orderNo d p t f ≡ 0) where
+      yeses : AllYes (orderQuestions d p t f)
+      unfolding orderQuestions
+      yeses = all-yes (orderQuestions d p t f) tt none
+
+      pub in-table : t .security < maxSecurities
+      unfolding orderQuestions
+      in-table =
+          omega (
+            arith,
+            ltb-true (t .security) (r .securities) (yes 5 (orderQuestions d p t f) yeses),
+            standing .backed .rulesOk .securities,
+          )
+
+      pub opens : x ≡ Open
+      unfolding orderQuestions
+      opens = open-phase x (yes 6 (orderQuestions d p t f) yeses)
+
+      pub same-day : d ≡ openDay r m k b
+      same-day = ap (λ (z : Phase). dayOf r z m k b) opens
+
+      pub accepts : {e : Order} → e ≡ entryWith (b .codes) p t → Accepts r (row r (t .security)) b e f m k
+      accepts entry = record {
+        row = ap (λ (o : Order). row r (o .security)) entry;
+        standing = subst Standing same-day standing;
+        participant = p;
+        member = t;
+        entry = entry;
+        asked = ap (λ (z : Day). orderNo z p t f) (sym same-day) ∙ none;
+      }

@@ -1,0 +1,96 @@
+-- From the search for an order, and from its leaving, to the contract of the call.
+use Prim.Native.Nat.{ℕ, suc, _≤_, _<_}
+use native.Mathlib.Omega.{arith}
+use mathlib.Core.Path.{_≡_, refl, ap, sym, _∙_, subst}
+use mathlib.Core.List.{List, [], _∷_}
+use mathlib.Core.Bool.{Bool, true, false, cond}
+use lib.ListN.{length}
+use borrow.Author.Tests.{le-ltb, lt-ltb}
+use Rattle.market.specs.declared.Answer.the-variants.{Done, Refused}
+use Rattle.market.specs.declared.Order.{Order}
+use Rattle.market.specs.declared.OrderBook.{OrderBook}
+use Rattle.market.specs.declared.Phase.{Phase}
+use Rattle.market.specs.declared.Rules.{Rules}
+use Rattle.market.specs.declared.Security.{Security}
+use Rattle.market.specs.Limits.{maxSecurities, maxWaiting}
+use Rattle.market.specs.Day.{Day, row, orderAt}
+use Rattle.market.specs.View.{dayOf}
+use Rattle.market.specs.Waiting.{Place, firstPlace, later, leave, nowhere, placeIn, placeOf, somewhere}
+use Rattle.market.specs.Calls.{cancel}
+use Rattle.market.specs.Questions.{questions}
+use Rattle.market.specs.Step.{effect}
+use Rattle.market.specs.Parts.{Carries, Ready}
+use Rattle.market.proofs.Parts.{carries-accept, carries-refuse}
+use Rattle.market.proofs.View.{first-length}
+use Rattle.invariant.specs.Standing.{Standing}
+use Rattle.invariant.proofs.Sound.{ready-standing}
+use Rattle.matching.specs.Orders.{waitingIn}
+use Rattle.waiting.specs.Leaving.{Holds, Leavable, Leaves}
+use Rattle.waiting.proofs.Leaving.{leaver-known}
+use Rattle.orders.proofs.Answered.{few-lots}
+
+-- a place that is found is in the list
+abbrev Inside : ℕ → Place → Type 0
+Inside n nowhere = Unit {0}
+Inside n (somewhere i) = i < n
+
+place-inside : (f : Order → Bool) (w : List Order) → Inside (length w) (firstPlace f w)
+place-inside f [] = tt
+place-inside f (o ∷ w) = go (f o) (firstPlace f w) (place-inside f w)
+  where
+    go : (k : Bool) (x : Place) → Inside (length w) x → Inside (suc (length w)) (cond k (somewhere 0) (later x))
+    go true x h = omega arith
+    go false nowhere h = tt
+    go false (somewhere i) h = omega arith
+
+-- a cancellation on the parts of a sound day
+module _ (r : Rules) (x : Phase) (m k : List ℕ) (b : OrderBook) (p c : ℕ) (ready : Ready r x m k b) where
+  abbrev d : Day
+  d = dayOf r x m k b
+
+  abbrev declines : ℕ → Type 0
+  declines n = Carries r x m k b [] (cancel p c) m k [] (record { answer = Refused n 0; phase = x; book = b })
+
+  standing : Standing d
+  standing = ready-standing ready
+
+  pub cancel-unknown : r .participants ≤ p → declines 4
+  unfolding questions
+  cancel-unknown h =
+      carries-refuse r x m k b [] (cancel p c) (ready .sound) 4 (omega arith) (rw (le-ltb p (r .participants) h))
+
+  pub cancel-none : p < r .participants → nowhere ≡ placeOf p c (waitingIn b) → declines 16
+  unfolding questions
+  cancel-none h e =
+      carries-refuse r x m k b [] (cancel p c) (ready .sound) 16 (omega arith) (rw (lt-ltb p (r .participants) h, ← e))
+
+  -- the order waits at place i
+  module _ (i : ℕ) (e : somewhere i ≡ placeOf p c (waitingIn b)) where
+    found-waits : i < b .count
+    unfolding placeOf
+    found-waits =
+        let h : i < length (waitingIn b) =
+        subst (Inside (length (waitingIn b))) (sym e) (place-inside _ (waitingIn b)) in
+        omega (arith, first-length (b .count) (b .orders))
+
+    pub found-inside : i < maxWaiting
+    found-inside = omega (arith, found-waits, (few-lots r x m k b standing) .room)
+
+    abbrev l : Security
+    l = row r ((orderAt (b .orders) i) .security)
+
+    holds : Holds r x l b i m k
+    holds = record { waits = found-waits; row = refl; standing = standing }
+
+    pub found-known : (orderAt (b .orders) i) .security < maxSecurities
+    found-known = leaver-known holds
+
+    pub found-leaves : Leavable l b i m k
+    found-leaves = record { rules = r; phase = x; holds = holds }
+
+    pub cancel-carries : (m′ k′ : List ℕ) (b′ : OrderBook) → p < r .participants → Leaves l b i m k m′ k′ b′
+        → Carries r x m k b [] (cancel p c) m′ k′ [] (record { answer = Done c 0 0 0; phase = x; book = b′ })
+    unfolding questions effect
+    cancel-carries m′ k′ b′ h leaves =
+        carries-accept r x m k b [] (cancel p c) (ready .sound) m′ k′ [] _ (rw (lt-ltb p (r .participants) h, ← e)) refl
+        (leaves r x holds ∙ ap (λ (z : Place). leave d (placeIn z)) e) refl

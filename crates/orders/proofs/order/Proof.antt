@@ -1,0 +1,151 @@
+-- `orders::order` meets its contract: question 2, those from 4 to 14, question 15, then the entry.
+use Prim.Native.Nat.{_<_}
+use native.Mathlib.Omega.{arith}
+use mathlib.Core.Path.{_≡_, refl}
+use Rattle.market.specs.Limits.{maxSecurities}
+use Rattle.market.specs.View.{dayOf}
+use Rattle.market.specs.Questions.{entryQuestions, firstNo}
+use Rattle.amounts.proofs.Answers.{fails, holds}
+use Rattle.orders.proofs.Calling.{enterable, few-lots, in-table, order-enters, refuse-first, refuse-short}
+use Rattle.orders.proofs.Calling.{refuse-whole, rules-known}
+use borrow.Author.Needs.{needs}
+use Rattle.orders.proofs.order.Statement.{statement}
+use Rattle.orders.proofs.order.Tie as tie
+
+declined-requires : tie.Need-declined-requires
+declined-requires c κs = search needs
+
+returns : tie.Need-returns
+returns c =
+    let b = c .before .before .before in
+    let a = b .args in
+    rw (c .declined .ensures)
+    (refuse-short (a .rules) (a .phase) (a .money .now) (a .pieces .now) (a .b) (b .pre) (a .participant) (a .ticket) (a .force)
+    (a .trades .now) (c .before .if1 .taken))
+
+order-no-requires : tie.Need-order-no-requires
+order-no-requires c κs =
+    let b = c .before .before .before .before .before in
+    let a = b .args in
+    rules-known (a .rules) (a .phase) (a .money .now) (a .pieces .now) (a .b) (b .pre)
+
+-- question 2 is answered "yes"
+abbrev lent : tie.After-order-no → tie.Else1
+lent c = c .before .before .before .before
+
+abbrev start : tie.After-order-no → tie.Start
+start c = (lent c) .before .before
+
+-- the number is that of the day's questions 4 to 14
+first : (c : tie.After-order-no) →
+    let a = (start c) .args in
+    c .order-no .result
+    ≡ firstNo (entryQuestions (dayOf (a .rules) (a .phase) (a .money .now) (a .pieces .now) (a .b)) (a .participant) (a .ticket) (a .force))
+first c = c .order-no .ensures ((start c) .args .b) refl refl refl
+
+declined-requires-2 : tie.Need-declined-requires-2
+declined-requires-2 c κs = search needs
+
+returns-2 : tie.Need-returns-2
+returns-2 c =
+    let n = c .before .before in
+    let b = start n in
+    let a = b .args in
+    rw (c .declined2 .ensures)
+    (refuse-first (a .rules) (a .phase) (a .money .now) (a .pieces .now) (a .b) (b .pre) (a .participant) (a .ticket) (a .force)
+    (a .trades .now) ((lent n) .if1 .left) (n .order-no .result) (c .before .if2 .taken) (first n))
+
+none : (c : tie.Else2) →
+    let a = (start (c .before)) .args in
+    firstNo (entryQuestions (dayOf (a .rules) (a .phase) (a .money .now) (a .pieces .now) (a .b)) (a .participant) (a .ticket) (a .force))
+    ≡ 0
+none c = omega (arith, c .if2 .left, first (c .before))
+
+entry-of-requires : tie.Need-entry-of-requires
+entry-of-requires c κs =
+    let b = start (c .before) in
+    let a = b .args in
+    (rules-known (a .rules) (a .phase) (a .money .now) (a .pieces .now) (a .b) (b .pre)) .codes
+
+is-fillable-requires : tie.Need-is-fillable-requires
+is-fillable-requires c κs =
+    let b = start (c .before .before) in
+    let a = b .args in
+    few-lots (a .rules) (a .phase) (a .money .now) (a .pieces .now) (a .b) (b .pre)
+
+declined-requires-3 : tie.Need-declined-requires-3
+declined-requires-3 c κs = search needs
+
+returns-3 : tie.Need-returns-3
+returns-3 c =
+    let f = c .before .before in
+    let e = f .before in
+    let k = e .before in
+    let b = start (k .before) in
+    let a = b .args in
+    rw (c .declined3 .ensures)
+    (refuse-whole (a .rules) (a .phase) (a .money .now) (a .pieces .now) (a .b) (b .pre) (a .participant) (a .ticket) (a .force)
+    (a .trades .now) ((lent (k .before)) .if1 .left) (none k) (e .entry-of .ensures) (fails (f .is-fillable .ensures) (c .before .if3 .taken)))
+
+-- behind question 15
+abbrev asked : tie.Else3 → tie.Else2
+asked c = c .before .before .before
+
+listed : (c : tie.Else3) → (start ((asked c) .before)) .args .ticket .security < maxSecurities
+listed c =
+    let f = c .before in
+    let k = asked c in
+    let b = start (k .before) in
+    let a = b .args in
+    in-table (a .rules) (a .phase) (a .money .now) (a .pieces .now) (a .b) (b .pre) (a .participant) (a .ticket) (a .force)
+    (a .trades .now) ((lent (k .before)) .if1 .left) (none k) (f .before .entry-of .ensures) (holds (f .is-fillable .ensures) (c .if3 .left))
+
+mul-row : tie.Need-mul-row
+mul-row c = omega (arith, listed (c .before))
+
+array-copy-out-row : tie.Need-array-copy-out-row
+array-copy-out-row c = listed (c .before)
+
+enter-requires : tie.Need-enter-requires
+enter-requires c κs =
+    let w = c .before .before .before .before .before in
+    let f = w .before in
+    let k = asked w in
+    let b = start (k .before) in
+    let a = b .args in
+    enterable (a .rules) (a .phase) (a .money .now) (a .pieces .now) (a .b) (b .pre) (a .participant) (a .ticket) (a .force)
+    (a .trades .now) ((lent (k .before)) .if1 .left) (none k) (f .before .entry-of .ensures) (holds (f .is-fillable .ensures) (w .if3 .left))
+
+same-length : tie.Need-same-length
+same-length c = search needs
+
+returns-4 : tie.Need-returns-4
+returns-4 c =
+    let n = c .before .before in
+    let w = n .before .before .before .before .before .before in
+    let f = w .before in
+    let k = asked w in
+    let b = start (k .before) in
+    let a = b .args in
+    order-enters (a .rules) (a .phase) (a .money .now) (a .pieces .now) (a .b) (b .pre) (a .participant) (a .ticket) (a .force)
+    (a .trades .now) ((lent (k .before)) .if1 .left) (none k) (f .before .entry-of .ensures) (holds (f .is-fillable .ensures) (w .if3 .left))
+    _ _ _ (n .enter .result) (n .enter .ensures)
+
+pub order-spec : {M : Type 1} → statement M
+order-spec =
+    tie.close
+    (tie.spec
+    declined-requires
+    returns
+    order-no-requires
+    declined-requires-2
+    returns-2
+    entry-of-requires
+    is-fillable-requires
+    declined-requires-3
+    returns-3
+    mul-row
+    array-copy-out-row
+    enter-requires
+    same-length
+    returns-4)

@@ -1,0 +1,76 @@
+-- `orders::order_no` meets its contract: questions 4 to 7, then the others on row and turnover of the security.
+use Prim.Native.Nat.{_<_}
+use native.Mathlib.Omega.{arith}
+use mathlib.Core.Path.{_≡_}
+use Rattle.market.specs.Limits.{maxSecurities}
+use Rattle.market.specs.Questions.{firstNo}
+use Rattle.orders.specs.Entering.{earlyQuestions}
+use Rattle.orders.proofs.Asking.{askable, in-rules, no-early, no-later}
+use borrow.Author.Needs.{needs}
+use Rattle.orders.proofs.order_no.Statement.{statement}
+use Rattle.orders.proofs.order_no.Tie as tie
+
+early-no-requires : tie.Need-early-no-requires
+early-no-requires c κs = search needs
+
+returns : tie.Need-returns
+returns c =
+    let e = c .before in
+    let a = e .before .args in
+    no-early (a .rules) (a .phase) (a .codes) (a .participant) (a .ticket) (a .t3) (a .count) (a .money .now) (a .pieces .now)
+    (a .force) (e .early-no .result) (c .if1 .taken) (e .early-no .ensures)
+
+-- behind question 7
+abbrev start : tie.Else1 → tie.Start
+start c = c .before .before
+
+none : (c : tie.Else1) →
+    let a = (start c) .args in
+    firstNo (earlyQuestions (a .rules .participants) (a .rules .securities) (a .phase) (a .participant) (a .ticket)) ≡ 0
+none c = omega (arith, c .if1 .left, c .before .early-no .ensures)
+
+listed : (c : tie.Else1) → (start c) .args .ticket .security < maxSecurities
+listed c =
+    let b = start c in
+    let a = b .args in
+    in-rules (a .rules) (a .phase) (a .codes) (a .participant) (a .ticket) (b .pre) (none c)
+
+mul-row : tie.Need-mul-row
+mul-row c = omega (arith, listed (c .before))
+
+array-copy-out-row : tie.Need-array-copy-out-row
+array-copy-out-row c = listed (c .before)
+
+mul-turnover : tie.Need-mul-turnover
+mul-turnover c = omega (arith, listed (c .before .before))
+
+array-copy-out-turnover : tie.Need-array-copy-out-turnover
+array-copy-out-turnover c = listed (c .before .before)
+
+later-no-requires : tie.Need-later-no-requires
+later-no-requires c κs =
+    let k = c .before .before .before in
+    let b = start k in
+    let a = b .args in
+    askable (a .rules) (a .phase) (a .codes) (a .participant) (a .ticket) (b .pre) (none k)
+
+returns-2 : tie.Need-returns-2
+returns-2 c =
+    let k = c .before .before .before .before in
+    let b = start k in
+    let a = b .args in
+    no-later (a .rules) (a .phase) (a .codes) (a .participant) (a .ticket) (b .pre) (none k) (a .t3) (a .count) (a .money .now)
+    (a .pieces .now) (a .force) (c .later-no .result) (c .later-no .ensures)
+
+pub order-no-spec : {M : Type 1} → statement M
+order-no-spec =
+    tie.close
+    (tie.spec
+    early-no-requires
+    returns
+    mul-row
+    array-copy-out-row
+    mul-turnover
+    array-copy-out-turnover
+    later-no-requires
+    returns-2)

@@ -1,0 +1,344 @@
+-- What holds at the head of the pairing loop: from here the definition comes to the same as from the start.
+use Prim.Native.Nat.{ℕ, _+_, _*_, _≤_, _<_, min}
+use native.Mathlib.Nat.{mul-le-mul-left, mul-le-mul-right}
+use native.Mathlib.Omega.{arith}
+use mathlib.Core.Path.{_≡_, refl, ap, sym, _∙_, subst}
+use mathlib.Core.List.{List, [], _∷_}
+use lib.ListN.{length, take-append-drop}
+use borrow.Author.Tests.{leb-true}
+use Rattle.market.specs.declared.Order.{Order}
+use Rattle.market.specs.declared.OrderBook.{OrderBook}
+use Rattle.market.specs.declared.Phase.{Phase}
+use Rattle.market.specs.declared.Security.{Security}
+use Rattle.market.specs.declared.Side.the-variants.{Buy, Sell}
+use Rattle.market.specs.declared.Turnover.{Turnover}
+use Rattle.market.specs.Limits.{maxCodes, maxLot, maxLots, maxPieces, maxPrice, maxSecurities, maxWaiting, numbersPerTrade}
+use Rattle.market.specs.declared.Rules.{Rules}
+use Rattle.market.specs.Day.{Asset, Day, Money, Pieces, row, noOrder, orderAt, turnoverAt}
+use Rattle.market.specs.View.{dayOf}
+use Rattle.market.specs.Needs.{limitOf, needAt, piecesOf, sumFor}
+use Rattle.market.specs.Positions.{settle}
+use Rattle.market.specs.TradeList.{lotsOf, tradeOf}
+use Rattle.market.specs.Matching.{Best, found, none}
+use Rattle.market.specs.Closing.{Paired, Terms, counterparty, firstBuy, firstSell, pairedOff, pairs}
+use Rattle.market.specs.Closing.{takeBoth}
+use Rattle.market.proofs.Lists.{All, all-at, all-map, sum-remove}
+use Rattle.market.proofs.Known.{OrderOk}
+use Rattle.market.proofs.Matching.{Chosen, best-chosen}
+use Rattle.market.proofs.Pairs.{Meeting, meet-apart, meets, pairs-no-buy, pairs-no-sell, pairs-one}
+use Rattle.market.proofs.View.{first-length}
+use Rattle.invariant.specs.Standing.{KindOk, Standing, needsOf}
+use Rattle.invariant.proofs.Whole.{limit-fits}
+use Rattle.invariant.proofs.Pairing.{Fair, FairTo, pair-standing, pair-two}
+use Rattle.matching.specs.Execution.{Countable, Executable, Executes}
+use Rattle.matching.specs.Orders.{waitingIn}
+use Rattle.matching.specs.Written.{tradeWritten}
+use Rattle.matching.proofs.Ready.{settled, settles}
+use Rattle.matching.proofs.Writing.{written-length, written-next, writtenFrom}
+use Rattle.session.specs.Pairing.{Counts, Meets, PairedAs}
+use Rattle.session.proofs.Keeping.{Positive}
+
+-- the parts at the start: rules, phase, row, security, terms, money, pieces, order book, lent list
+pub record Start : Type 0 where
+  pub r : Rules
+  pub x : Phase
+  pub l : Security
+  pub s : ℕ
+  pub t : Terms
+  pub m : List ℕ
+  pub k : List ℕ
+  pub b : OrderBook
+  pub v : List ℕ
+
+-- the pairing of the definition from these parts on, and from the start
+abbrev pub restOf : Start → (m k : List ℕ) → OrderBook → Paired
+restOf g m k b = pairs (g .s) (g .t) (dayOf (g .r) (g .x) m k b)
+
+abbrev pub whole : Start → Paired
+whole g = restOf g (g .m) (g .k) (g .b)
+
+-- with so many trades made
+pub record Going (g : Start) (m k v : List ℕ) (b : OrderBook) (made : ℕ) : Type 0 where
+  pub meets : Meets (g .r) (g .x) (g .l) (g .s) (g .t) b m k
+  pub long : length v ≡ length (g .v)
+  pub turnover : b .turnover ≡ g .b .turnover
+  pub left : b .left ≡ g .b .left
+  pub counts : Counts (g .b) (g .v)
+  pub count : made + b .count ≤ g .b .trades + g .b .count
+  pub few : b .filled ≤ maxLots * made
+  pub day : (restOf g m k b) .day ≡ (whole g) .day
+  pub trades : made + length ((restOf g m k b) .trades) ≡ g .b .trades + length ((whole g) .trades)
+  pub sum : b .filled + lotsOf ((restOf g m k b) .trades) ≡ g .b .filled + lotsOf ((whole g) .trades)
+  pub list : writtenFrom made ((restOf g m k b) .trades) v ≡ writtenFrom (g .b .trades) ((whole g) .trades) (g .v)
+
+pub going-starts : (g : Start) → Meets (g .r) (g .x) (g .l) (g .s) (g .t) (g .b) (g .m) (g .k) → Counts (g .b) (g .v)
+    → Going g (g .m) (g .k) (g .v) (g .b) (g .b .trades)
+going-starts g f c = record {
+  meets = f;
+  long = refl;
+  turnover = refl;
+  left = refl;
+  counts = c;
+  count = omega arith;
+  few = c .few;
+  day = refl;
+  trades = refl;
+  sum = refl;
+  list = refl;
+}
+
+-- two books that differ in their orders, their count and their trades alone
+pub record Same (b b′ : OrderBook) : Type 0 where
+  pub codes : b′ .codes ≡ b .codes
+  pub turnover : b′ .turnover ≡ b .turnover
+  pub filled : b′ .filled ≡ b .filled
+  pub left : b′ .left ≡ b .left
+
+module _ {g : Start} {m k v : List ℕ} {b : OrderBook} {made : ℕ} (h : Going g m k v b made) where
+  abbrev d : Day
+  d = dayOf (g .r) (g .x) m k b
+
+  abbrev st : Standing d
+  st = h .meets .standing
+
+  pub going-room : b .count ≤ maxWaiting
+  going-room = omega (arith, h .meets .standing .room, first-length (b .count) (b .orders))
+
+  pub going-security : g .s < maxSecurities
+  going-security = omega (arith, h .meets .known, h .meets .standing .backed .rulesOk .securities)
+
+  pub going-positive : All Positive (waitingIn b)
+  going-positive = all-map (OrderOk (g .r)) Positive (waitingIn b) (λ o ok. ok .lots) (h .meets .standing .orders)
+
+  pub going-counts : (b′ : OrderBook) → b′ .filled ≡ b .filled → b′ .trades ≡ made → b′ .count ≡ b .count → Counts b′ v
+  going-counts b′ ef et ec = record {
+    most = omega (arith, h .count, h .counts .most);
+    few = rw (ef, et) (h .few);
+    lent = omega (arith, h .count, h .counts .lent, h .long);
+  }
+
+  -- where one side is used up
+  ends : restOf g m k b ≡ record { day = d; trades = [] } → (b′ : OrderBook) → dayOf (g .r) (g .x) m k b′ ≡ d
+      → b′ .filled ≡ b .filled → b′ .trades ≡ made → b′ .left ≡ b .left
+      → PairedAs (whole g) (g .r) (g .x) (g .b) (g .v) m k v b′
+  unfolding lotsOf
+  ends e b′ same filled count left = record {
+    day = same ∙ sym (ap (λ (p : Paired). p .day) e) ∙ h .day;
+    standing = subst Standing (sym (ap (λ (p : Paired). p .day) e) ∙ h .day) st;
+    lots = omega (arith, filled, h .sum, ap (λ (p : Paired). lotsOf (p .trades)) e);
+    trades = omega (arith, count, h .trades, ap (λ (p : Paired). length (p .trades)) e);
+    list =
+        sym (take-append-drop (numbersPerTrade * made) v)
+        ∙ sym (ap (λ (p : Paired). writtenFrom made (p .trades) v) e)
+        ∙ h .list;
+    left = left ∙ h .left;
+  }
+
+  pub going-no-buy : firstBuy (g .s) (g .t) d ≡ none → (b′ : OrderBook) → dayOf (g .r) (g .x) m k b′ ≡ d
+      → b′ .filled ≡ b .filled → b′ .trades ≡ made → b′ .left ≡ b .left
+      → PairedAs (whole g) (g .r) (g .x) (g .b) (g .v) m k v b′
+  going-no-buy e = ends (pairs-no-buy (g .s) (g .t) d e)
+
+  pub going-no-sell : (i a : ℕ) → firstBuy (g .s) (g .t) d ≡ found i a → firstSell (g .s) (g .t) d ≡ none
+      → (b′ : OrderBook) → dayOf (g .r) (g .x) m k b′ ≡ d
+      → b′ .filled ≡ b .filled → b′ .trades ≡ made → b′ .left ≡ b .left
+      → PairedAs (whole g) (g .r) (g .x) (g .b) (g .v) m k v b′
+  going-no-sell i a e f = ends (pairs-no-sell (g .s) (g .t) d i a e f)
+
+  -- the buy at place i and the sell at place j trade
+  module _ (i j a c : ℕ) (eb : firstBuy (g .s) (g .t) d ≡ found i a) (es : firstSell (g .s) (g .t) d ≡ found j c) where
+    abbrev buy : Order
+    buy = orderAt (waitingIn b) i
+
+    abbrev sell : Order
+    sell = orderAt (waitingIn b) j
+
+    abbrev p : ℕ
+    p = g .t .price
+
+    abbrev n : ℕ
+    n = min (buy .lots) (sell .lots)
+
+    buys : Meeting Buy (g .s) (g .t .limit) (waitingIn b) i
+    buys =
+        meets Buy (g .s) (g .t .limit) (waitingIn b) i a
+        (subst (λ (y : Best). Chosen (counterparty Sell (g .s) (g .t .limit)) (waitingIn b) y) eb
+        (best-chosen (counterparty Sell (g .s) (g .t .limit)) (waitingIn b)))
+
+    sells : Meeting Sell (g .s) (g .t .limit) (waitingIn b) j
+    sells =
+        meets Sell (g .s) (g .t .limit) (waitingIn b) j c
+        (subst (λ (y : Best). Chosen (counterparty Buy (g .s) (g .t .limit)) (waitingIn b) y) es
+        (best-chosen (counterparty Buy (g .s) (g .t .limit)) (waitingIn b)))
+
+    pub going-buy : i < b .count
+    going-buy = omega (arith, buys .inside, first-length (b .count) (b .orders))
+
+    pub going-sell : j < b .count
+    going-sell = omega (arith, sells .inside, first-length (b .count) (b .orders))
+
+    pub going-apart : i ≡ j → ⊥
+    going-apart = meet-apart (g .s) (g .t .limit) (waitingIn b) i j buys sells
+
+    fair : p ≤ limitOf (b .turnover) buy
+    fair =
+        all-at (FairTo (g .s) (g .t) (b .turnover)) noOrder (waitingIn b) i (h .meets .fair) (buys .inside) (buys .security)
+        (buys .reach)
+
+    buyOk : OrderOk (g .r) buy
+    buyOk = all-at (OrderOk (g .r)) noOrder (waitingIn b) i (st .orders) (buys .inside)
+
+    sellOk : OrderOk (g .r) sell
+    sellOk = all-at (OrderOk (g .r)) noOrder (waitingIn b) j (st .orders) (sells .inside)
+
+    same : sell .security ≡ buy .security
+    same = sym (sells .security) ∙ buys .security
+
+    limit : limitOf (b .turnover) buy ≤ maxPrice
+    limit = limit-fits d st buy buyOk (all-at (KindOk d) noOrder (waitingIn b) i (st .kinds) (buys .inside))
+
+    listed : (q : ℕ) → q < length (waitingIn b) → (y : Asset) (e : ℕ)
+        → needAt y (g .r) (b .turnover) e (orderAt (waitingIn b) q) ≤ needsOf y d (waitingIn b) e
+    listed q hq y e = omega (arith, sum-remove (needAt y (g .r) (b .turnover) e) noOrder (waitingIn b) q hq)
+
+    -- Q and T are as they were, and the trade is within what a trade can be
+    countable : Countable (turnoverAt (b .turnover) (buy .security)) (piecesOf (row (g .r) (buy .security)) n)
+        (sumFor (row (g .r) (buy .security)) p n)
+    countable =
+        let q = st .turnovers (buy .security) (buyOk .security) in
+        let lot = st .backed .rulesOk .lot (buy .security) (buyOk .security) in
+        let codes = leb-true (b .codes) maxCodes (st .limit) in
+        let x = row (g .r) (buy .security) in
+        let some = few-pieces x (omega (arith, buyOk .top)) lot in
+        record {
+          roomQ = omega (arith, q .top);
+          roomT = omega (arith, q .top, q .high);
+          few = some;
+          low = low-sum x (omega (arith, fair, limit)) some;
+        }
+      where
+        few-pieces : (x : Security) → n ≤ maxLots → x .lot ≤ maxLot → piecesOf x n ≤ maxPieces
+        few-pieces x hn lot =
+            unfold piecesOf in
+            (let y = mul-le-mul-right (x .lot) hn in let z = mul-le-mul-left maxLots lot in omega arith)
+
+        low-sum : (x : Security) → p ≤ maxPrice → piecesOf x n ≤ maxPieces → sumFor x p n ≤ maxPrice * maxPieces
+        low-sum x hp hn =
+            unfold sumFor in
+            (let y = mul-le-mul-right (piecesOf x n) hp in let z = mul-le-mul-left maxPrice hn in omega arith)
+
+    pub going-lent : numbersPerTrade * made + numbersPerTrade ≤ length v
+    going-lent = omega (arith, h .count, h .counts .lent, h .long, going-buy)
+
+    abbrev Ready : Security → Turnover → Order → Order → ℕ → Type 0
+    Ready x q y z w = Executable x q y z p w made m k v
+
+    ready : Ready (g .l) (turnoverAt (g .b .turnover) (g .s)) buy sell n
+    ready =
+        subst (λ (x : List Turnover). Ready (g .l) (turnoverAt x (g .s)) buy sell n) (h .turnover)
+        (subst (λ (x : Security). Ready x (turnoverAt (b .turnover) (g .s)) buy sell n) (h .meets .row)
+        (subst (λ (x : ℕ). Ready (row (g .r) x) (turnoverAt (b .turnover) x) buy sell n) (sym (buys .security))
+        (record {
+          settles =
+              settles [] d (st .backed) buy sell p n buyOk sellOk (buys .side) (sells .side) same fair (omega arith) (omega arith)
+              (listed i (buys .inside) Money) (listed j (sells .inside) Pieces);
+          reckoned = record {
+            lot = st .backed .rulesOk .lot (buy .security) (buyOk .security);
+            limit = limit;
+            top = buyOk .top;
+            part = omega arith;
+          };
+          price = omega (arith, fair, limit);
+          counts = countable;
+          lent = going-lent;
+        })))
+
+    pub going-lots : b .filled + n ≤ maxLots * (made + 1)
+    going-lots = omega (arith, h .few, buyOk .top)
+
+    -- the code's orders and lots
+    module _ {y z : Order} {w : ℕ} (one : y ≡ buy) (other : z ≡ sell) (part : w ≡ n) where
+      pub going-ready : Ready (g .l) (turnoverAt (g .b .turnover) (g .s)) y z w
+      going-ready = rw (one, other, part) ready
+
+      -- what it hands over: the parts after the trade
+      module _ {m′ k′ v′ : List ℕ} {q : Turnover} (b′ : OrderBook)
+          (done : Executes (g .l) (turnoverAt (g .b .turnover) (g .s)) y z p w made m k v m′ k′ v′ q)
+          (waiting : waitingIn b′ ≡ takeBoth (waitingIn b) i j w) (codes : b′ .codes ≡ b .codes)
+          (turnover : b′ .turnover ≡ b .turnover) (left : b′ .left ≡ b .left) (filled : b′ .filled ≡ b .filled + w) where
+        abbrev Did : Security → Turnover → Order → Order → ℕ → Type 0
+        Did x e f o u = Executes x e f o p u made m k v m′ k′ v′ q
+
+        exact : Did (row (g .r) (buy .security)) (turnoverAt (b .turnover) (buy .security)) buy sell n
+        exact =
+            subst (λ (x : ℕ). Did (row (g .r) x) (turnoverAt (b .turnover) x) buy sell n) (buys .security)
+            (subst (λ (x : Security). Did x (turnoverAt (b .turnover) (g .s)) buy sell n) (sym (h .meets .row))
+            (subst (λ (x : List Turnover). Did (g .l) (turnoverAt x (g .s)) buy sell n) (sym (h .turnover))
+            (subst (λ (x : ℕ). Did (g .l) (turnoverAt (g .b .turnover) (g .s)) buy sell x) part
+            (subst (λ (x : Order). Did (g .l) (turnoverAt (g .b .turnover) (g .s)) buy x w) other
+            (subst (λ (x : Order). Did (g .l) (turnoverAt (g .b .turnover) (g .s)) x z w) one done)))))
+
+        after : dayOf (g .r) (g .x) m′ k′ b′ ≡ pairedOff d i j p n
+        unfolding pairedOff settle
+        after =
+            let positions = settled [] d (st .backed) buy sell p n buyOk sellOk (buys .side) (sells .side) same fair
+            (omega arith) (omega arith) (listed i (buys .inside) Money) (listed j (sells .inside) Pieces) m′ k′ (exact .money)
+            (exact .pieces) in
+            let money = ap (λ (x : Day). x .money) positions in
+            let pieces = ap (λ (x : Day). x .pieces) positions in
+            let off : waitingIn b′ ≡ takeBoth (waitingIn b) i j n = waiting ∙ ap (takeBoth (waitingIn b) i j) part in
+            rw (off, codes, turnover, money, pieces)
+
+        pub going-less : b′ .count < b .count
+        going-less =
+            let off : waitingIn b′ ≡ takeBoth (waitingIn b) i j n = waiting ∙ ap (takeBoth (waitingIn b) i j) part in
+            omega (
+              arith,
+              (pair-two d st (g .s) (g .t .limit) p i j n buys sells fair (omega arith) (omega arith)) .shorter (omega arith),
+              ap length off,
+              first-length (b .count) (b .orders),
+              first-length (b′ .count) (b′ .orders),
+            )
+
+        fair-after : Fair (g .s) (g .t) (pairedOff d i j p n)
+        unfolding pairedOff settle
+        fair-after =
+            (pair-two d st (g .s) (g .t .limit) p i j n buys sells fair (omega arith) (omega arith)) .all
+            (FairTo (g .s) (g .t) (b .turnover)) (λ o e u. e) (h .meets .fair)
+
+        pub going-next : Going g m′ k′ v′ b′ (made + 1)
+        unfolding lotsOf
+        going-next =
+            let trade = tradeOf (g .r) buy sell p n in
+            let rest = restOf g m′ k′ b′ in
+            let again : restOf g m k b ≡ record { day = rest .day; trades = trade ∷ rest .trades } =
+            pairs-one (g .s) (g .t) d i j a c eb es
+            ∙ ap (λ (x : Day). record {
+              day = (pairs (g .s) (g .t) x) .day;
+              trades = trade ∷ (pairs (g .s) (g .t) x) .trades;
+            }) (sym after) in
+            let listed : v′ ≡ tradeWritten made trade v = exact .list in
+            record {
+              meets = record {
+                row = h .meets .row;
+                known = h .meets .known;
+                standing =
+                    subst Standing (sym after)
+                    (pair-standing d st (g .s) (g .t .limit) p i j n buys sells fair (omega arith) (omega arith));
+                fair = subst (Fair (g .s) (g .t)) (sym after) fair-after;
+              };
+              long = ap length listed ∙ written-length v made trade going-lent ∙ h .long;
+              turnover = turnover ∙ h .turnover;
+              left = left ∙ h .left;
+              counts = h .counts;
+              count = omega (arith, h .count, going-less);
+              few = omega (arith, filled, part, going-lots);
+              day = sym (ap (λ (x : Paired). x .day) again) ∙ h .day;
+              trades = omega (arith, h .trades, ap (λ (x : Paired). length (x .trades)) again);
+              sum = omega (arith, filled, part, h .sum, ap (λ (x : Paired). lotsOf (x .trades)) again);
+              list =
+                  ap (writtenFrom (made + 1) (rest .trades)) listed
+                  ∙ sym (written-next v made trade going-lent (rest .trades))
+                  ∙ sym (ap (λ (x : Paired). writtenFrom made (x .trades) v) again)
+                  ∙ h .list;
+            }

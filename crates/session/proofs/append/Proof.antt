@@ -1,0 +1,50 @@
+-- `session::append` meets its contract: the need is blocked and the order waits, under all rules that have its row.
+use Prim.Native.Nat.{_<_}
+use native.Mathlib.Omega.{arith}
+use Rattle.market.specs.Limits.{maxWaiting}
+use Rattle.market.proofs.Sized.{sized-book}
+use Rattle.session.proofs.Appending.{append-blocks, append-done, append-room, append-security}
+use Rattle.session.proofs.append.Statement.{statement}
+use Rattle.session.proofs.append.Tie as tie
+
+mul-turnover : tie.Need-mul-turnover
+mul-turnover c = omega (arith, append-security (c .pre .admits))
+
+element-copy-out-turnover : tie.Need-element-copy-out-turnover
+element-copy-out-turnover c = append-security (c .pre .admits)
+
+block-need-requires : tie.Need-block-need-requires
+block-need-requires c κs = append-blocks (c .before .before .before .pre .admits)
+
+abbrev start : tie.After-block-need → tie.Start
+start c = c .before .before .before .before
+
+room : (c : tie.After-block-need) → (start c) .args .b .count < maxWaiting
+room c = append-room ((start c) .pre .admits)
+
+mul-o : tie.Need-mul-o
+mul-o c = omega (arith, room c)
+
+element-set-from-o : tie.Need-element-set-from-o
+element-set-from-o c = room c
+
+add-book : tie.Need-add-book
+add-book c = omega (arith, room c)
+
+returns : tie.Need-returns
+returns c = λ r a.
+    let b = start c in
+    append-done a (omega (arith, room c, (sized-book (b .args .b) (b .good .0)) .orders)) (c .block-need .ensures .0)
+    (c .block-need .ensures .1)
+
+pub append-spec : {M : Type 1} → statement M
+append-spec =
+    tie.close
+    (tie.spec
+    mul-turnover
+    element-copy-out-turnover
+    block-need-requires
+    mul-o
+    element-set-from-o
+    add-book
+    returns)

@@ -1,0 +1,77 @@
+-- A closing order on the parts of a day: its questions, what it asks, and what it does.
+use Prim.Native.Nat.{ℕ, _+_}
+use mathlib.Core.Path.{_≡_}
+use mathlib.Core.List.{List, [], _∷_}
+use Rattle.market.specs.declared.Answer.the-variants.{Done}
+use Rattle.market.specs.declared.Kind.the-variants as kind
+use Rattle.market.specs.declared.Order.{Order}
+use Rattle.market.specs.declared.OrderBook.{OrderBook}
+use Rattle.market.specs.declared.Phase.{Phase}
+use Rattle.market.specs.declared.Phase.the-variants.{Closing}
+use Rattle.market.specs.declared.Security.{Security}
+use Rattle.market.specs.declared.Side.{Side}
+use Rattle.market.specs.declared.Turnover.{Turnover}
+use Rattle.market.specs.Limits.{maxCodes, maxWaiting}
+use Rattle.market.specs.Tests.{_<?_, known}
+use Rattle.market.specs.declared.Rules.{Rules}
+use Rattle.market.specs.Day.{row}
+use Rattle.market.specs.View.{dayOf}
+use Rattle.market.specs.Sound.{hasTraded, isClosing, lotsSound}
+use Rattle.market.specs.Answers.{Result}
+use Rattle.market.specs.Calls.{closingOf}
+use Rattle.market.specs.Questions.{Question, ask, closingQuestions, firstNo}
+use Rattle.market.specs.Entry.{placed}
+use Rattle.invariant.specs.Standing.{Standing}
+use Rattle.waiting.specs.Claims.{coveredBy}
+
+-- a closing order as it enters, where so many codes are given
+abbrev pub closingWith : ℕ → ℕ → Side → ℕ → ℕ → Order
+closingWith codes p side s lots = record {
+  code = codes + 1;
+  participant = p;
+  side = side;
+  security = s;
+  lots = lots;
+  kind = kind.Closing;
+}
+
+-- the questions that ask for no row of the table
+abbrev pub earlyClosing : ℕ → ℕ → Phase → (p s n : ℕ) → List Question
+earlyClosing participants securities x p s n =
+    ask 4 (known p participants) ∷
+    ask 5 (known s securities) ∷
+    ask 6 (isClosing x) ∷
+    ask 7 (lotsSound n) ∷ []
+
+-- those that read row and turnover of the order's security, its participant's positions, and counts
+abbrev pub laterClosing : Security → Turnover → (count codes : ℕ) → Order → (m k : List ℕ) → List Question
+laterClosing l t count codes o m k =
+    ask 11 (hasTraded t) ∷
+    ask 12 (count <? maxWaiting) ∷
+    ask 13 (codes <? maxCodes) ∷
+    ask 14 (coveredBy l t o m k) ∷ []
+
+-- under rules r, l is the row of the order's security, the day is sound, and o is a closing order that passed its questions
+pub record Admits (r : Rules) (l : Security) (b : OrderBook) (o : Order) (m k : List ℕ) : Type 0 where
+  pub row : row r (o .security) ≡ l
+  pub standing : Standing (dayOf r Closing m k b)
+  pub participant : ℕ
+  pub side : Side
+  pub security : ℕ
+  pub lots : ℕ
+  pub entry : o ≡ closingOf (dayOf r Closing m k b) participant side security lots
+  pub asked : firstNo (closingQuestions (dayOf r Closing m k b) participant side security lots) ≡ 0
+
+-- there are such rules
+pub record Appendable (l : Security) (b : OrderBook) (o : Order) (m k : List ℕ) : Type 0 where
+  pub rules : Rules
+  pub admits : Admits rules l b o m k
+
+-- answer and day are those of a result x
+pub record AppendedAs (x : Result) (r : Rules) (m′ k′ : List ℕ) (b′ : OrderBook) : Type 0 where
+  pub answer : Done (b′ .codes) (b′ .filled) (b′ .left) (b′ .trades) ≡ x .answer
+  pub day : dayOf r Closing m′ k′ b′ ≡ x .day
+
+-- under all such rules, the definition's
+abbrev pub Appends : Security → OrderBook → Order → (m k m′ k′ : List ℕ) → OrderBook → Type 0
+Appends l b o m k m′ k′ b′ = (r : Rules) → Admits r l b o m k → AppendedAs (placed (dayOf r Closing m k b) o) r m′ k′ b′
