@@ -1,4 +1,4 @@
-.PHONY: test run beamgantry library compare program bench copies
+.PHONY: test model run beamgantry library compare program bench copies
 
 # A day file for `make run`, and the generated days for `make compare`.
 DAY ?= crates/day_cases/data/worked-example.day
@@ -7,21 +7,23 @@ COUNT ?= 6000
 
 MODEL = cargo run --quiet --release --manifest-path tests/model/Cargo.toml --
 
-# The model and its comparison first; rt ci is last, and its last line is the verdict.
-test: compare program
-	@rt fmt --check
+# The last line is the verdict of `rt ci`.
+test:
+	@scripts/test.sh
+
+# The model's own tests, which link the library.
+model: library
 	@cargo test --quiet --release --manifest-path tests/model/Cargo.toml
-	@rt ci
 
 run: beamgantry
 	@target/bin/beamgantry < $(DAY)
 
 # Proves what the program needs, where that is not done yet, and builds it; the same for the library.
 beamgantry:
-	@mkdir -p target && rt check beamgantry > target/beamgantry.log 2>&1 || { cat target/beamgantry.log; exit 1; }
+	@scripts/prove.sh check beamgantry
 
 library:
-	@mkdir -p target && rt staticlib exports > target/library.log 2>&1 || { cat target/library.log; exit 1; }
+	@scripts/prove.sh staticlib exports
 
 compare: library
 	@$(MODEL) compare $(FIRST) $(COUNT)
