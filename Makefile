@@ -28,7 +28,7 @@ library:
 compare: library
 	@$(MODEL) compare $(FIRST) $(COUNT)
 
-# The program itself, through pipes.
+# The program itself, through pipes, also such as make it wait or fail.
 program: beamgantry library
 	@$(MODEL) program target/bin/beamgantry 1 300
 

@@ -18,6 +18,7 @@ mod clock;
 mod compare;
 #[cfg(feature = "engine")]
 mod engine_under_test;
+mod pipes;
 mod program;
 
 const FIRST_SEED: u64 = 1;
@@ -28,7 +29,8 @@ usage: model compare [first-seed] [count]  engine and model on generated day fil
        model self-check [first-seed] [count]  model and book on generated day files
        model print [FILE]  the model's output for a day file or standard input
        model day SEED  the day file of a seed
-       model program PATH [first-seed] [count]  the day program and model on generated day files
+       model program PATH [first-seed] [count]  the day program and model on generated day files,
+           then the program on streams that make it wait or fail
        model bench  speed of engine and model";
 
 fn main() -> ExitCode {
@@ -51,7 +53,8 @@ fn run(arguments: &[String]) -> Result<(), String> {
         Some("program") => {
             let path = rest.first().ok_or(USAGE)?;
             let (first_seed, count) = seeds(&rest[1..])?;
-            program::compare_program(path, first_seed, count)
+            program::compare_program(path, first_seed, count)?;
+            pipes::try_pipes(path)
         }
         #[cfg(feature = "engine")]
         Some("compare") => {
