@@ -2,12 +2,13 @@
 
 use model::cases::{cases, Case};
 use model::check::checked_output;
+use model::level::DAY_FILE;
 use model::tally::Tally;
 
 #[test]
 fn every_case_prints_what_is_expected() -> Result<(), String> {
     for case in cases()? {
-        let output = checked_output(&case.text, &mut Tally::default());
+        let output = checked_output::<DAY_FILE>(&case.text, &mut Tally::default());
         let printed = output.unwrap_or_else(|fault| panic!("{}: {fault}", case.name));
         let printed = String::from_utf8_lossy(&printed);
         let expected = String::from_utf8_lossy(&case.expected);
