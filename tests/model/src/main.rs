@@ -36,6 +36,7 @@ usage: model compare [first-seed] [count]  engine and model on generated day fil
        model day SEED  the day file of a seed
        model script-text SEED  the script of a seed
        model program PATH [first-seed] [count]  the day program and model on generated day files,
+           then the program on streams that make it wait or fail
        model replay PATH [first-seed] [count]  the program replay and model on generated scripts
        model bench  speed of engine and model";
 
