@@ -38,7 +38,7 @@ ghost use Rattle.market.specs.Parts.{Carries, Ready};
 ghost use Rattle.waiting.specs.Claims.{Reckonable};
 ghost use Rattle.session.specs.Leaving.{AllLeft, Leavable};
 ghost use Rattle.session.specs.Pairing.{Closable, ClosingPairs, Ends, Pairable, Pairs, places};
-ghost use Rattle.session.specs.Appending.{Appendable, Appends, closingWith, earlyClosing, laterClosing};
+ghost use Rattle.session.specs.Appending.{Appendable, Appends, Askable, ClosingNo, closingWith, earlyClosing, laterClosing};
 
 // The needs of all waiting orders are freed. The caller's book has no orders then: `book.count = 0`.
 pub fn free_all(
@@ -210,7 +210,7 @@ pub fn end_pairing(
 }
 
 // The first "no" of questions 4 to 7 of a closing order, which ask for no row of the table; 0 where there is none.
-pub fn early_closing_no(
+fn early_closing_no(
     participants: u64,
     securities: u64,
     phase: Phase,
@@ -236,7 +236,7 @@ pub fn early_closing_no(
 }
 
 // The first "no" of questions 11 to 14; 0 where there is none.
-pub fn later_closing_no<'a>(
+fn later_closing_no<'a>(
     money: &'a [u64; 512],
     pieces: &'a [u64; 512],
     row: Security,
@@ -263,6 +263,57 @@ pub fn later_closing_no<'a>(
     0
 }
 
+// A closing order as it enters, under the next code: it has no price.
+pub fn closing_order(codes: u64, participant: u64, side: Side, security: u64, lots: u64) -> Order
+    requires { ⌜ codes ≤ maxCodes ⌝ }
+    ensures { λ r. ⌜ r ≡ closingWith codes participant side security lots ⌝ }
+{
+    Order {
+        code: codes + 1,
+        participant,
+        side,
+        security,
+        lots,
+        kind: Kind::Closing,
+    }
+}
+
+// The first "no" of a closing order's questions, which read no waiting order; 0 where there is none.
+pub fn closing_no<'a>(
+    rules: Rules,
+    phase: Phase,
+    turnovers: [Turnover; 16],
+    count: usize,
+    codes: u64,
+    money: &'a [u64; 512],
+    pieces: &'a [u64; 512],
+    participant: u64,
+    side: Side,
+    security: u64,
+    lots: u64,
+) -> u64
+    requires { ⌜ Askable rules turnovers codes ⌝ }
+    ensures { λ r. ⌜ ClosingNo rules phase turnovers count codes (now (money .entry)) (now (pieces .entry)) participant side security lots r ⌝ }
+{
+    let early = early_closing_no(
+        rules.participants,
+        rules.securities,
+        phase,
+        participant,
+        security,
+        lots,
+    );
+    if 0 < early {
+        return early;
+    }
+    let place = security as usize;
+    let table = rules.table;
+    let row = table[place];
+    let turnover = turnovers[place];
+    let o = closing_order(codes, participant, side, security, lots);
+    later_closing_no(money, pieces, row, turnover, count, codes, o)
+}
+
 // A closing order that passed its questions only waits: its need is blocked, its code given. `row` is its security's.
 pub fn append(
     b: OrderBook,
@@ -285,21 +336,6 @@ pub fn append(
     book.left = o.lots;
     book.trades = 0;
     book
-}
-
-// A closing order as it enters, under the next code: it has no price.
-fn closing_order(codes: u64, participant: u64, side: Side, security: u64, lots: u64) -> Order
-    requires { ⌜ codes ≤ maxCodes ⌝ }
-    ensures { λ r. ⌜ r ≡ closingWith codes participant side security lots ⌝ }
-{
-    Order {
-        code: codes + 1,
-        participant,
-        side,
-        security,
-        lots,
-        kind: Kind::Closing,
-    }
 }
 
 // All waiting orders come off, and closing orders may enter.
@@ -342,24 +378,26 @@ pub fn enter_closing_order(
     requires { ⌜ Ready rules phase (now money) (now pieces) b ⌝ }
     ensures { λ r. ⌜ Carries rules phase (now (money .entry)) (now (pieces .entry)) b [] (closingOrder participant side security lots) (now (money .exit)) (now (pieces .exit)) [] r ⌝ }
 {
-    let early = early_closing_no(
-        rules.participants,
-        rules.securities,
+    let turnovers = b.turnover;
+    let number = closing_no(
+        rules,
         phase,
+        turnovers,
+        b.count,
+        b.codes,
+        &*money,
+        &*pieces,
         participant,
+        side,
         security,
         lots,
     );
-    if 0 < early {
-        return declined(b, phase, early);
+    if 0 < number {
+        return declined(b, phase, number);
     }
-    let row = rules.table[security as usize];
-    let turnover = b.turnover[security as usize];
     let o = closing_order(b.codes, participant, side, security, lots);
-    let later = later_closing_no(&*money, &*pieces, row, turnover, b.count, b.codes, o);
-    if 0 < later {
-        return declined(b, phase, later);
-    }
+    let table = rules.table;
+    let row = table[security as usize];
     let book = append(b, o, row, money, pieces);
     Carried {
         answer: Answer::Done(book.codes, book.filled, book.left, book.trades),
