@@ -11,6 +11,7 @@ MODEL = cargo run --quiet --release --manifest-path tests/model/Cargo.toml --
 test: compare program
 	@rt fmt --check
 	@cargo test --quiet --release --manifest-path tests/model/Cargo.toml
+	@python3 tests/trace.py
 	@rt ci
 
 run: beamgantry
