@@ -120,7 +120,7 @@ fn failed() {
         group(day(), 0, 2, pair(buy(1, 100, 10), sell(0, 100, 10))),
     );
     after(
-        b"second member without counter orders: 15, place 2",
+        b"second member without a counter order that fits: 15, place 2",
         group(day(), 0, 2, pair(sell(0, 100, 10), buy(1, 90, 1))),
     );
 }
@@ -178,7 +178,7 @@ fn more_refusals() {
     );
 }
 
-// Seven members trade, the eighth finds nothing left.
+// Seven members trade, the eighth's price is out of reach of the three lots left; then at a price that fits.
 fn eight() {
     let mut trades = [7u64; 1088];
     let s = day();
@@ -186,7 +186,7 @@ fn eight() {
     members[7] = sell(0, 105, 3);
     positions(s);
     let s = after(
-        b"eight members, the last refused: 15, place 8",
+        b"eight members, no order fits the last: 15, place 8",
         enter_group(s, 0, 8, members, &mut trades),
     );
     positions(s);
