@@ -1,4 +1,5 @@
 pub mod Sized
 pub mod Resuming
 pub mod Beginning
+pub mod Some
 pub mod Whole
