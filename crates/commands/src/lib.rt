@@ -80,7 +80,7 @@ pub enum Asked {
 }
 
 // A command's answer and its trades, from place `at` of the buffer on.
-fn put_command(out: &mut [u8], at: usize, line: u64, answer: Answer, trades: &[u64]) -> usize
+pub fn put_command(out: &mut [u8], at: usize, line: u64, answer: Answer, trades: &[u64]) -> usize
     requires { ⌜ at + room ≤ length (now out) ⌝ }
     requires { ⌜ length (now trades) ≡ lentAtLeast ⌝ }
     requires { ⌜ (numbersOf answer) .trades ≤ maxTrades ⌝ }
@@ -227,7 +227,7 @@ fn without_orders(
 }
 
 // Are there a command and room for it?
-fn goes_on(length: usize, at: usize, size: usize, filled: usize) -> bool
+pub fn goes_on(length: usize, at: usize, size: usize, filled: usize) -> bool
     requires { ⌜ room ≤ size ⌝ }
     ensures { λ r. ⌜ r ≡ goesOn length at size filled ⌝ }
 {
