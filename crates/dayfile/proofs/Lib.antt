@@ -3,3 +3,4 @@ pub mod Resuming
 pub mod Beginning
 pub mod Some
 pub mod Whole
+pub mod Taken

@@ -146,14 +146,14 @@ pub fn begin(text: &[u8], out: &mut [u8]) -> Run
 pub fn whole_day(text: &[u8], out: &mut [u8]) -> usize
     ensures { λ r. ⌜ Prints (now (text .entry)) (now (out .entry)) r (now (out .exit)) ⌝ }
 {
-    let r = begin(text, out);
-    if r.over {
-        return r.filled;
+    let first = begin(text, out);
+    if first.over {
+        return first.filled;
     }
-    if out.len() - ROOM < r.filled {
+    if out.len() - ROOM < first.filled {
         return 0;
     }
-    let last = resume(text, r, out);
+    let last = resume(text, first, out);
     if !last.over {
         return 0;
     }
