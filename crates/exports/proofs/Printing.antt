@@ -1,5 +1,6 @@
 -- A day that was begun, after commands by the public calls: what it has printed so far, and what it prints in the end.
 use Prim.Native.Nat.{ℕ, _+_, _≤_, _<_}
+use native.Mathlib.Omega.{arith}
 use mathlib.Core.Path.{_≡_, refl, _∙_}
 use mathlib.Core.List.{List, _++_}
 use mathlib.Core.Bool.{false}
@@ -13,6 +14,7 @@ use Rattle.reading.specs.declared.Reading.{Reading}
 use Rattle.reading.specs.Commands.{Reads}
 use Rattle.printing.specs.Buffer.{Puts}
 use Rattle.printing.specs.Lines.{answerLine, flatLines, positionLines}
+use Rattle.printing.proofs.Buffer.{drop-further}
 use Rattle.commands.specs.declared.Stand.{Stand}
 use Rattle.commands.specs.Stand as stand
 use Rattle.commands.specs.Stand.{Onward, goesOn, room}
@@ -20,7 +22,7 @@ use Rattle.commands.proofs.Placing.{command-next, onward-none, onward-then}
 use Rattle.dayfile.specs.declared.Run.{Run}
 use Rattle.dayfile.specs.Run.{Begins, Prints, left}
 use Rattle.dayfile.proofs.Resuming.{fills-over, starts}
-use Rattle.dayfile.proofs.Whole.{begins-then, prints-over}
+use Rattle.dayfile.proofs.Whole.{begins-room, begins-then, prints-over}
 use Rattle.exports.proofs.PublicCalls.{Follows}
 
 -- a run that is not over, and where its commands stand
@@ -81,7 +83,12 @@ module _ {text before middle after : List ℕ} {r : Run} {s : State} {at line fi
         going = λ _. record { sound = g .ready .sound; inside = g .inside; short = g .short; line = g .line };
         size = f .onward .size ∙ begins .size;
         filled = f .onward .filled;
-        whole = rw (← f .rules) (f .onward .whole) ∙ rw still at (begins .whole);
+        small = λ h. absurd (omega (arith, h, begins-room begins still));
+        whole = λ enough. rw (← f .rules) (f .onward .whole) ∙ rw still at (begins .whole enough);
+        fits = rw (← f .rules) (f .onward .fits) ∙ rw still at (begins .fits);
+        past =
+            f .onward .past
+            ∙ drop-further middle before (r .filled) filled (f .onward .forward) (begins .past);
       }
 
   -- the commands stopped with room left: the positions, and all is printed
@@ -91,4 +98,4 @@ module _ {text before middle after : List ℕ} {r : Run} {s : State} {at line fi
       let none = onward-none _ _ _ _ _ _ (going f) (f .onward .filled) in
       let last =
       fills-over (runOf s at line filled) refl refl (record { onward = none; stops = stops }) refl fits s fits puts in
-      prints-over (begins-then begins-on (last .continues)) refl
+      prints-over (begins-then begins-on refl (last .continues)) refl

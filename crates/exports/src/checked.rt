@@ -43,9 +43,6 @@ fn last_lines(s: State, at: usize, out: &mut [u8]) -> usize
 pub fn whole_day(text: &[u8], out: &mut [u8]) -> usize
     ensures { λ r. ⌜ Prints (now (text .entry)) (now (out .entry)) r (now (out .exit)) ⌝ }
 {
-    if out.len() < ROOM {
-        return 0;
-    }
     let r = begin(text, out);
     if r.over {
         return r.filled;

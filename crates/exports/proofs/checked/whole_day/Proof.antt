@@ -14,7 +14,7 @@ use Rattle.commands.specs.Stand.{room}
 use Rattle.commands.proofs.Carrying.{goes-on-both}
 use Rattle.commands.proofs.Placing.{lines-few}
 use Rattle.dayfile.proofs.Sized.{sized-run}
-use Rattle.dayfile.proofs.Whole.{prints-none, prints-over, prints-small}
+use Rattle.dayfile.proofs.Whole.{begins-room, prints-none, prints-over}
 use Rattle.exports.proofs.PublicCalls.{Follows, follows-call, follows-none, meet}
 use Rattle.exports.proofs.Printing.{Further, begins-on, further-next, further-none, going}
 use Rattle.exports.proofs.Printing.{prints-all, runOf}
@@ -29,17 +29,14 @@ Inv-loop text out₀ trades₀ s₀ at₀ line₀ filled₀ out trades s at line
 abbrev μ-loop : tie.MeasureT-loop
 μ-loop text out₀ trades₀ s₀ at₀ line₀ filled₀ out trades s at line filled = length text - at
 
-returns : tie.Need-returns Inv-loop μ-loop
-returns c = prints-small _ _ (c .if1 .taken)
-
 begin-requires : tie.Need-begin-requires Inv-loop μ-loop
 begin-requires c κs = search needs
 
 same-length : tie.Need-same-length Inv-loop μ-loop
 same-length c = search needs
 
-returns-2 : tie.Need-returns-2 Inv-loop μ-loop
-returns-2 c = prints-over (c .before .before .before .begin .ensures) (c .if2 .taken)
+returns : tie.Need-returns Inv-loop μ-loop
+returns c = prints-over (c .before .before .before .begin .ensures) (c .if1 .taken)
 
 -- where the day begins
 abbrev begun : tie.At-loop Inv-loop μ-loop → tie.After-begin Inv-loop μ-loop
@@ -49,9 +46,9 @@ loop-holds : tie.Need-loop-holds Inv-loop μ-loop
 loop-holds c =
     let b = c .before .before .before .before in
     let begins = b .begin .ensures in (
-      further-none begins (c .before .if2 .left) (sized-run _ (b .begin .ok)),
+      further-none begins (c .before .if1 .left) (sized-run _ (b .begin .ok)),
       refl,
-      omega (arith, begins .size, b .before .before .if1 .left),
+      omega (arith, begins .size, begins-room begins (c .before .if1 .left)),
     )
 
 goes-on-requires : tie.Need-goes-on-requires Inv-loop μ-loop
@@ -103,11 +100,11 @@ slice-aggregate-put-command c =
 -- there is a command, and room for it
 goes : (k : tie.After-command-at Inv-loop μ-loop) →
     let l = looped k in
-    (l .loop .at < length ((begun l) .before .before .before .before .before .args .text .now))
+    (l .loop .at < length ((begun l) .before .before .before .before .args .text .now))
     × (l .loop .filled + room ≤ length (l .loop .out))
 goes k =
     let t = k .before in
-    goes-on-both _ _ _ _ (sym (t .before .goes-on .ensures) ∙ t .if3 .taken)
+    goes-on-both _ _ _ _ (sym (t .before .goes-on .ensures) ∙ t .if2 .taken)
 
 put-command-requires : tie.Need-put-command-requires Inv-loop μ-loop
 put-command-requires c κs =
@@ -140,36 +137,36 @@ loop-again c =
       omega (arith, puts .size, i .2),
     )
 
-sub-if4 : tie.Need-sub-if4 Inv-loop μ-loop
-sub-if4 c = c .before .before .loop .inv .2
+sub-if3 : tie.Need-sub-if3 Inv-loop μ-loop
+sub-if3 c = c .before .before .loop .inv .2
 
 same-length-2 : tie.Need-same-length-2 Inv-loop μ-loop
 same-length-2 c = search needs
 
-returns-3 : tie.Need-returns-3 Inv-loop μ-loop
-returns-3 c =
+returns-2 : tie.Need-returns-2 Inv-loop μ-loop
+returns-2 c =
     let l = c .before .before .before in
     let b = begun l in
-    prints-none (begins-on (b .begin .ensures) (l .before .before .if2 .left) (l .loop .inv .0))
-    (omega (arith, c .if4 .taken, l .loop .inv .2))
+    prints-none (begins-on (b .begin .ensures) (l .before .before .if1 .left) (l .loop .inv .0)) refl
+    (omega (arith, c .if3 .taken, l .loop .inv .2))
 
 last-lines-requires : tie.Need-last-lines-requires Inv-loop μ-loop
 last-lines-requires c κs =
     let e = c .before in
     let i = e .before .before .before .loop .inv in
-    ((going (i .0)) .ready .sound, omega (arith, e .if4 .left, i .2))
+    ((going (i .0)) .ready .sound, omega (arith, e .if3 .left, i .2))
 
 same-length-3 : tie.Need-same-length-3 Inv-loop μ-loop
 same-length-3 c = search needs
 
-returns-4 : tie.Need-returns-4 Inv-loop μ-loop
-returns-4 c =
+returns-3 : tie.Need-returns-3 Inv-loop μ-loop
+returns-3 c =
     let k = c .before .before in
     let e = k .before .before in
     let g = e .before .before in
     let l = g .before in
-    prints-all ((begun l) .begin .ensures) (l .before .before .if2 .left) (l .loop .inv .0)
-    (sym (g .goes-on .ensures) ∙ e .before .if3 .left) (omega (arith, e .if4 .left, l .loop .inv .2)) (k .last-lines .ensures)
+    prints-all ((begun l) .begin .ensures) (l .before .before .if1 .left) (l .loop .inv .0)
+    (sym (g .goes-on .ensures) ∙ e .before .if2 .left) (omega (arith, e .if3 .left, l .loop .inv .2)) (k .last-lines .ensures)
 
 pub whole-day-spec : {M : Type 1} → statement M
 whole-day-spec =
@@ -177,10 +174,9 @@ whole-day-spec =
     (tie.spec
     Inv-loop
     μ-loop
-    returns
     begin-requires
     same-length
-    returns-2
+    returns
     loop-holds
     goes-on-requires
     command-at-requires
@@ -192,9 +188,9 @@ whole-day-spec =
     add-line
     loop-less
     loop-again
-    sub-if4
+    sub-if3
     same-length-2
-    returns-3
+    returns-2
     last-lines-requires
     same-length-3
-    returns-4)
+    returns-3)
