@@ -19,7 +19,7 @@ use Rattle.market.specs.declared.TimeInForce.{TimeInForce}
 use Rattle.market.specs.Limits.{lentAtLeast, maxSecurities}
 use Rattle.market.specs.Day.{row}
 use Rattle.market.specs.View.{dayOf}
-use Rattle.market.specs.Waiting.{placeOf}
+use Rattle.market.specs.Waiting.{indexOf}
 use Rattle.market.specs.Questions.{closingQuestions, entryQuestions, firstNo}
 use Rattle.market.specs.Parts.{Carries, Ready, callOf}
 use Rattle.lines.specs.declared.Line.{Line}
@@ -103,7 +103,7 @@ module _ (says : Line) (ms : List Ticket) (r : Rules) (x : Phase) (m k : List �
     cancels = subst (asks m′ k′) told h
 
     -- and the search ended with f
-    module _ {f : Found} (place : foundAt f ≡ placeOf p c (waitingIn b)) where
+    module _ {f : Found} (place : foundAt f ≡ indexOf p c (waitingIn b)) where
       pub does-decline : f ≡ Nothing → Line-does m′ k′ l (record { answer = Refused 16 0; phase = x; book = b })
       unfolding carried
       does-decline nothing =

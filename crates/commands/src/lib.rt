@@ -28,7 +28,7 @@ use reserves::moved;
 use session::append;
 use session::closing_no;
 use session::closing_order;
-use waiting::left;
+use waiting::leave;
 ghost use mathlib.Core.Path.{_≡_};
 ghost use mathlib.Core.List.{_++_};
 ghost use Prim.Native.Nat.{_+_, _≤_};
@@ -287,9 +287,9 @@ pub fn commands(
             Asked::Cancels(participant, code) => {
                 answer = Answer::Refused(NOT_WAITING, 0);
                 let found = find(book, participant, code);
-                if let Found::At(place, security) = found {
+                if let Found::At(index, security) = found {
                     let row = table[security as usize];
-                    book = left(book, place, row, money, pieces);
+                    book = leave(book, index, row, money, pieces);
                     answer = Answer::Done(code, 0, 0, 0);
                 }
             }

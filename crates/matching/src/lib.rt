@@ -1,8 +1,8 @@
 // Continuous trading: the best counter order, one trade, the fill. Positions and the trade list are lent, the order book
 // goes by value.
+use amounts::cell_of;
 use amounts::need_of;
 use amounts::pieces_of;
-use amounts::place_of;
 use market::Kind;
 use market::Order;
 use market::OrderBook;
@@ -33,7 +33,7 @@ pub const NUMBERS_PER_TRADE: usize = 8;
 // The largest number of 64 bits.
 const TOP: u64 = 18446744073709551615;
 
-// Place and price of the best counter order.
+// Index and price of the best counter order.
 pub enum Found {
     Nothing,
     At(usize, u64),
@@ -252,11 +252,11 @@ fn settle(
     ensures { λ _. ⌜ now (money .exit) ≡ moneyAfter row buy sell fall sum (now (money .entry)) ⌝ }
     ensures { λ _. ⌜ now (pieces .exit) ≡ piecesAfter buy sell sold (now (pieces .entry)) ⌝ }
 {
-    let payer = place_of(buy.participant, row.currency);
-    let payee = place_of(sell.participant, row.currency);
+    let payer = cell_of(buy.participant, row.currency);
+    let payee = cell_of(sell.participant, row.currency);
     transfer(money, payer, payee, fall, sum);
-    let holder = place_of(sell.participant, buy.security);
-    let taker = place_of(buy.participant, buy.security);
+    let holder = cell_of(sell.participant, buy.security);
+    let taker = cell_of(buy.participant, buy.security);
     transfer(pieces, holder, taker, sold, sold);
 }
 

@@ -14,7 +14,7 @@ use Rattle.market.specs.declared.Rules.{Rules}
 use Rattle.market.specs.Limits.{maxSecurities}
 use Rattle.market.specs.Day.{Day, row, orderAt}
 use Rattle.market.specs.View.{dayOf}
-use Rattle.market.specs.Waiting.{Place, firstPlace, later, leave, nowhere, placeIn, placeOf, somewhere}
+use Rattle.market.specs.Waiting.{Index, firstIndex, later, leave, nowhere, indexIn, indexOf, somewhere}
 use Rattle.market.specs.Calls.{cancel}
 use Rattle.market.specs.Questions.{questions}
 use Rattle.market.specs.Step.{effect}
@@ -31,15 +31,15 @@ use Rattle.orders.specs.declared.Found.the-variants.{At, Nothing}
 use Rattle.orders.specs.Finding.{OfSecurity, foundAt}
 
 -- a place that is found is in the list
-abbrev Inside : ℕ → Place → Type 0
+abbrev Inside : ℕ → Index → Type 0
 Inside n nowhere = Unit {0}
 Inside n (somewhere i) = i < n
 
-place-inside : (f : Order → Bool) (w : List Order) → Inside (length w) (firstPlace f w)
-place-inside f [] = tt
-place-inside f (o ∷ w) = go (f o) (firstPlace f w) (place-inside f w)
+cell-inside : (f : Order → Bool) (w : List Order) → Inside (length w) (firstIndex f w)
+cell-inside f [] = tt
+cell-inside f (o ∷ w) = go (f o) (firstIndex f w) (cell-inside f w)
   where
-    go : (k : Bool) (x : Place) → Inside (length w) x → Inside (suc (length w)) (cond k (somewhere 0) (later x))
+    go : (k : Bool) (x : Index) → Inside (length w) x → Inside (suc (length w)) (cond k (somewhere 0) (later x))
     go true x h = omega arith
     go false nowhere h = tt
     go false (somewhere i) h = omega arith
@@ -61,23 +61,23 @@ module _ (r : Rules) (x : Phase) (m k : List ℕ) (b : OrderBook) (p c : ℕ) (r
       carries-refuse r x m k b [] (cancel p c) (ready .sound) 4 (omega arith) (rw (le-ltb p (r .participants) h))
 
   -- the search ended with f
-  module _ {f : Found} (place : foundAt f ≡ placeOf p c (waitingIn b)) where
+  module _ {f : Found} (place : foundAt f ≡ indexOf p c (waitingIn b)) where
     pub cancel-none : p < r .participants → f ≡ Nothing → declines 16
     unfolding questions
     cancel-none h none =
-        let e : nowhere ≡ placeOf p c (waitingIn b) = sym (ap foundAt none) ∙ place in
+        let e : nowhere ≡ indexOf p c (waitingIn b) = sym (ap foundAt none) ∙ place in
         carries-refuse r x m k b [] (cancel p c) (ready .sound) 16 (omega arith) (rw (lt-ltb p (r .participants) h, ← e))
 
     -- the order waits at place i; s is its security
     module _ {i s : ℕ} (own : OfSecurity (b .orders) f) (found : f ≡ At i s) where
-      there : somewhere i ≡ placeOf p c (waitingIn b)
+      there : somewhere i ≡ indexOf p c (waitingIn b)
       there = sym (ap foundAt found) ∙ place
 
       waits : i < b .count
-      unfolding placeOf
+      unfolding indexOf
       waits =
           let h : i < length (waitingIn b) =
-          subst (Inside (length (waitingIn b))) (sym there) (place-inside _ (waitingIn b)) in
+          subst (Inside (length (waitingIn b))) (sym there) (cell-inside _ (waitingIn b)) in
           omega (arith, first-length (b .count) (b .orders))
 
       its-own : s ≡ (orderAt (b .orders) i) .security
@@ -98,4 +98,4 @@ module _ (r : Rules) (x : Phase) (m k : List ℕ) (b : OrderBook) (p c : ℕ) (r
       unfolding questions effect
       cancel-carries m′ k′ b′ h leaves =
           carries-accept r x m k b [] (cancel p c) (ready .sound) m′ k′ [] _ (rw (lt-ltb p (r .participants) h, ← there)) refl
-          (leaves r x holds ∙ ap (λ (z : Place). leave d (placeIn z)) there) refl
+          (leaves r x holds ∙ ap (λ (z : Index). leave d (indexIn z)) there) refl

@@ -25,12 +25,12 @@ use matching::with_lots;
 use waiting::block_need;
 use waiting::covers;
 use waiting::free_need;
-use waiting::left;
+use waiting::leave;
 ghost use mathlib.Core.Path.{_≡_};
 ghost use mathlib.Core.List.{[]};
 ghost use Prim.Native.Nat.{_≤_};
 ghost use Rattle.market.specs.Limits.{maxCodes, maxWaiting};
-ghost use Rattle.market.specs.Waiting.{placeOf};
+ghost use Rattle.market.specs.Waiting.{indexOf};
 ghost use Rattle.market.specs.Calls.{cancel as cancelCall, order as orderCall};
 ghost use Rattle.market.specs.Questions.{firstNo};
 ghost use Rattle.market.specs.Entry.{leftWaiting};
@@ -39,7 +39,7 @@ ghost use Rattle.matching.specs.Orders.{FewLots, waitingIn};
 ghost use Rattle.orders.specs.Entering.{Askable, Enterable, Enters, EntryNo, Known, earlyQuestions, entryWith, fillableIn, laterQuestions, roomWith};
 ghost use Rattle.orders.specs.Finding.{OfSecurity, foundAt, isOwn as ownOrder};
 
-// Place of a waiting order, and its security.
+// Where an order waits in the list, and its security.
 pub enum Found {
     Nothing,
     At(usize, u64),
@@ -289,7 +289,7 @@ fn is_own(participant: u64, code: u64, o: Order) -> bool
 // The first waiting order of the participant with that code.
 pub fn find(b: OrderBook, participant: u64, code: u64) -> Found
     requires { ⌜ b .count ≤ maxWaiting ⌝ }
-    ensures { λ r. ⌜ foundAt r ≡ placeOf participant code (waitingIn b) ⌝ }
+    ensures { λ r. ⌜ foundAt r ≡ indexOf participant code (waitingIn b) ⌝ }
     ensures { λ r. ⌜ OfSecurity (b .orders) r ⌝ }
 {
     let count = b.count;
@@ -326,7 +326,7 @@ pub fn cancel(
     };
     let table = rules.table;
     let row = table[security as usize];
-    let book = left(b, at, row, money, pieces);
+    let book = leave(b, at, row, money, pieces);
     Carried {
         answer: Answer::Done(code, 0, 0, 0),
         phase,

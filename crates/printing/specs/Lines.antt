@@ -6,7 +6,7 @@ use lib.ListN.{drop, take}
 use Rattle.market.specs.declared.Answer.{Answer}
 use Rattle.market.specs.Limits.{numbersPerTrade}
 use Rattle.market.specs.Tests.{_<?_}
-use Rattle.market.specs.Day.{Day, Position, place, position}
+use Rattle.market.specs.Day.{Day, Position, cell, position}
 use Rattle.market.specs.TradeList.{Trade, numbers}
 use Rattle.market.specs.Answers.{numbersOf}
 
@@ -72,7 +72,7 @@ positionLine letter p column x = printedLine letter (p ∷ column ∷ x .free �
 unfoldable pub columnLines : ℕ → List ℕ → ℕ → ℕ → ℕ → List ℕ
 columnLines letter l p zero c = []
 columnLines letter l p (suc n) c =
-    positionLine letter p c (position l (place p c)) ++ columnLines letter l p n (suc c)
+    positionLine letter p c (position l (cell p c)) ++ columnLines letter l p n (suc c)
 
 -- "by rising participant, then rising second number": n participants from p on, each with all columns
 unfoldable pub participantLines : ℕ → List ℕ → ℕ → ℕ → ℕ → List ℕ

@@ -1,5 +1,5 @@
 // The lines that the day file program prints, put one after another into a lent buffer.
-use amounts::place_of;
+use amounts::cell_of;
 use market::Answer;
 ghost use mathlib.Core.Path.{_≡_};
 ghost use mathlib.Core.List.{[], _∷_};
@@ -128,7 +128,7 @@ fn put_columns(
     let mut end = at;
     let mut column: u64 = 0;
     while column < columns {
-        let first = 2 * place_of(participant, column);
+        let first = 2 * cell_of(participant, column);
         let free = positions[first];
         let blocked = positions[first + 1];
         end = put_position(out, end, letter, participant, column, free, blocked);

@@ -37,11 +37,11 @@ ghost use Rattle.market.specs.Closing.{counterparty as standsFor};
 ghost use Rattle.market.specs.Parts.{Carries, Ready};
 ghost use Rattle.waiting.specs.Claims.{Reckonable};
 ghost use Rattle.session.specs.Leaving.{AllLeft, Leavable};
-ghost use Rattle.session.specs.Pairing.{Closable, ClosingPairs, Ends, Pairable, Pairs, places};
+ghost use Rattle.session.specs.Pairing.{Closable, ClosingPairs, Ends, Pairable, Pairs, slots};
 ghost use Rattle.session.specs.Appending.{Appendable, Appends, Askable, ClosingNo, closingWith, earlyClosing, laterClosing};
 
 // The needs of all waiting orders are freed. The caller's book has no orders then: `book.count = 0`.
-pub fn free_all(
+fn free_all(
     book: OrderBook,
     table: [Security; 16],
     money: &mut [u64; 512],
@@ -77,15 +77,15 @@ fn counterparty(side: Side, security: u64, limit: Kind) -> Order
 }
 
 // How many places an order keeps: none where its lots are used up.
-fn places_of(o: Order) -> usize
-    ensures { λ r. ⌜ r ≡ places o ⌝ }
+fn slots_of(o: Order) -> usize
+    ensures { λ r. ⌜ r ≡ slots o ⌝ }
 {
     if 0 < o.lots { 1 } else { 0 }
 }
 
 // The first buy with the first sell of a security, until one side is used up. `limit` and `price` are the terms: which
 // orders meet, and at which price. These trades don't enter Q or T. Lots and trades add to those of the book.
-pub fn pair_all(
+fn pair_all(
     b: OrderBook,
     security: u64,
     limit: Kind,
@@ -144,7 +144,7 @@ pub fn pair_all(
         'keep: while k < count {
             let o = book.orders[k];
             book.orders[kept] = o;
-            kept += places_of(o);
+            kept += slots_of(o);
             k += 1;
         }
         book.count = kept;
@@ -192,7 +192,7 @@ fn pair_closing(
 }
 
 // The session's end: closing orders trade, the rest comes off. The caller's phase is closed then.
-pub fn end_pairing(
+fn end_pairing(
     b: OrderBook,
     securities: u64,
     table: [Security; 16],
@@ -306,10 +306,10 @@ pub fn closing_no<'a>(
     if 0 < early {
         return early;
     }
-    let place = security as usize;
+    let listed = security as usize;
     let table = rules.table;
-    let row = table[place];
-    let turnover = turnovers[place];
+    let row = table[listed];
+    let turnover = turnovers[listed];
     let o = closing_order(codes, participant, side, security, lots);
     later_closing_no(money, pieces, row, turnover, count, codes, o)
 }

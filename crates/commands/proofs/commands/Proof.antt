@@ -112,8 +112,8 @@ mul-row c = omega (arith, listed c)
 array-copy-out-row : tie.Need-array-copy-out-row Inv-loop μ-loop
 array-copy-out-row c = listed c
 
-left-requires : tie.Need-left-requires Inv-loop μ-loop
-left-requires c κs =
+leave-requires : tie.Need-leave-requires Inv-loop μ-loop
+leave-requires c κs =
     let k = c .before .before .before in
     let f = k .before .before .before in
     let v = f .before .before in
@@ -283,7 +283,7 @@ commands-spec =
     enum-known-found
     mul-row
     array-copy-out-row
-    left-requires
+    leave-requires
     enum-told
     enum-known-verdict-4
     append-requires

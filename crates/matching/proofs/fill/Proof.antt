@@ -20,7 +20,7 @@ use Rattle.matching.specs.Orders.{coded, waitingIn}
 use Rattle.matching.specs.Search.{rank, top}
 use Rattle.matching.proofs.First.{first-at}
 use Rattle.matching.proofs.Going.{Going, best-lots, found-price, going-ends, going-lent, going-less, going-next}
-use Rattle.matching.proofs.Going.{going-place, going-ready, going-room, going-security, going-starts}
+use Rattle.matching.proofs.Going.{going-index, going-ready, going-room, going-security, going-starts}
 use Rattle.matching.proofs.Removal.{Moved, Off, moved-next, moved-starts, off-filled, off-less}
 use Rattle.matching.proofs.Search.{Seeks, rank-below, seek-found, seek-none, seek-starts, seek-stays, seek-takes}
 use Rattle.matching.proofs.fill.Statement.{statement}
@@ -162,11 +162,11 @@ found-at c =
 some : (c : Here) → 0 < (turn c) .fill .left
 some c = c .before .before .before .fill-test .taken
 
-place : (c : Here) → at c < (turn c) .fill .book .count
-place c = going-place (going (turn c)) (at c) (some c) (found-at c)
+index : (c : Here) → at c < (turn c) .fill .book .count
+index c = going-index (going (turn c)) (at c) (some c) (found-at c)
 
 inside : (c : Here) → at c < maxWaiting
-inside c = omega (arith, place c, going-room (going (turn c)))
+inside c = omega (arith, index c, going-room (going (turn c)))
 
 known : (c : Here) → (start c) .args .e .security < maxSecurities
 known c = going-security (going (turn c))
@@ -176,7 +176,7 @@ lent c = going-lent (going (turn c)) (at c) (some c) (found-at c) ((start c) .pr
 
 -- the order read is the one that waits there, and the lots of the trade are the definition's
 other : (c : Here) → orderAt ((turn c) .fill .book .orders) (at c) ≡ orderAt (waitingIn ((turn c) .fill .book)) (at c)
-other c = let b = (turn c) .fill .book in sym (first-at (b .count) (b .orders) (at c) (place c))
+other c = let b = (turn c) .fill .book in sym (first-at (b .count) (b .orders) (at c) (index c))
 
 part : (c : tie.After-lesser Inv-search μ-search Inv-loop μ-loop Inv-fill μ-fill) →
     let f = (turn (c .before .before)) .fill in
@@ -244,13 +244,13 @@ element-set-from-book : tie.Need-element-set-from-book Inv-search μ-search Inv-
 element-set-from-book c = known ((sized c) .before .before .before)
 
 sub-last : tie.Need-sub-last Inv-search μ-search Inv-loop μ-loop Inv-fill μ-fill
-sub-last c = omega (arith, place (here (c .before)))
+sub-last c = omega (arith, index (here (c .before)))
 
 loop-holds : tie.Need-loop-holds Inv-search μ-search Inv-loop μ-loop Inv-fill μ-fill
 loop-holds c =
     let k = here (c .before) in
     let b = (turn k) .fill .book in
-    (refl, moved-starts (b .orders) (at k) (b .count - 1) (omega (arith, place k)))
+    (refl, moved-starts (b .orders) (at k) (b .count - 1) (omega (arith, index k)))
 
 -- the order that moves stands in the array
 moves : (c : tie.In-loop Inv-search μ-search Inv-loop μ-loop Inv-fill μ-fill) → c .before .loop .j + 1 < maxWaiting
@@ -282,7 +282,7 @@ loop-again : tie.Need-loop-again Inv-search μ-search Inv-loop μ-loop Inv-fill 
 loop-again c =
     let l = c .before .before .loop in
     let d = c .before .before .before .before in
-    (l .inv .0, moved-next (l .inv .1) (omega (arith, roomy d, place (here d))) _ (c .before .loop-test .taken))
+    (l .inv .0, moved-next (l .inv .1) (omega (arith, roomy d, index (here d))) _ (c .before .loop-test .taken))
 
 sub-with-lots : tie.Need-sub-with-lots Inv-search μ-search Inv-loop μ-loop Inv-fill μ-fill
 sub-with-lots c = omega (arith, c .before .if4 .left)
@@ -308,10 +308,10 @@ off c =
     ⊎-elim
     (λ w.
     subst (Off (counted d) (at k) n) (sym (w .3))
-    (off-filled (counted d) (at k) n (place k) (roomy d) (w .0 .taken) (w .1 .inv .1) (w .2 .left) _ refl refl (w .1 .inv .0)))
+    (off-filled (counted d) (at k) n (index k) (roomy d) (w .0 .taken) (w .1 .inv .1) (w .2 .left) _ refl refl (w .1 .inv .0)))
     (λ w.
     subst (Off (counted d) (at k) n) (sym (w .3))
-    (off-less (counted d) (at k) n (place k) (roomy d) (w .0 .left) (w .2 .result) (w .2 .ensures) _ refl refl refl))
+    (off-less (counted d) (at k) n (index k) (roomy d) (w .0 .left) (w .2 .result) (w .2 .ensures) _ refl refl refl))
     (c .if4 .came)
 
 sub-left : tie.Need-sub-left Inv-search μ-search Inv-loop μ-loop Inv-fill μ-fill

@@ -61,8 +61,8 @@ mul-row c = omega (arith, known (c .before))
 array-copy-out-row : tie.Need-array-copy-out-row
 array-copy-out-row c = known (c .before)
 
-left-requires : tie.Need-left-requires
-left-requires c κs =
+leave-requires : tie.Need-leave-requires
+leave-requires c κs =
     let k = c .before .before .before .before in
     let f = k .before .before .before in
     let b = start f in
@@ -77,8 +77,8 @@ returns-3 c =
     let b = start f in
     let a = b .args in
     cancel-carries (a .rules) (a .phase) (a .money .now) (a .pieces .now) (a .b) (a .participant) (a .code) (b .pre)
-    (f .find .ensures .0) (f .find .ensures .1) (k .before .found .given .1) _ _ (c .left .result) (f .before .if1 .left)
-    (c .left .ensures)
+    (f .find .ensures .0) (f .find .ensures .1) (k .before .found .given .1) _ _ (c .leave .result) (f .before .if1 .left)
+    (c .leave .ensures)
 
 pub cancel-spec : {M : Type 1} → statement M
 cancel-spec =
@@ -93,5 +93,5 @@ cancel-spec =
     returns-2
     mul-row
     array-copy-out-row
-    left-requires
+    leave-requires
     returns-3)
