@@ -83,7 +83,7 @@ fn money(label: &[u8], s: State, place: usize) {
     }
 }
 
-// Eight numbers of the list from `first` on; a trade is: buy code, sell code, buyer, seller, security, price, lots, sum.
+// Eight numbers of the trade list from `first` on, as many as one trade takes.
 fn numbers(label: &[u8], trades: &[u64], first: usize) {
     if trades.len() < 8 {
         return;
@@ -372,18 +372,38 @@ fn funded() -> State {
     o.state
 }
 
-// An order of security 0, lent a list of sevens: its first trade and the 8 numbers behind it.
-fn traded(
-    label: &[u8],
-    s: State,
-    participant: u64,
-    side: Side,
-    price: u64,
-    lots: u64,
-    force: TimeInForce,
-) -> State {
+fn buy(security: u64, price: u64, lots: u64) -> Ticket {
+    Ticket {
+        side: Side::Buy,
+        security,
+        price,
+        lots,
+    }
+}
+
+fn sell(security: u64, price: u64, lots: u64) -> Ticket {
+    Ticket {
+        side: Side::Sell,
+        security,
+        price,
+        lots,
+    }
+}
+
+// An order lent a list of sevens: its first trade and the 8 numbers behind it.
+fn traded(label: &[u8], s: State, participant: u64, t: Ticket, force: TimeInForce) -> State {
     let mut trades = [7u64; 1088];
-    let o = enter_order(s, participant, side, 0, price, lots, force, &mut trades);
+    let side = t.side;
+    let o = enter_order(
+        s,
+        participant,
+        side,
+        t.security,
+        t.price,
+        t.lots,
+        force,
+        &mut trades,
+    );
     let s = after(label, o);
     numbers(label, &trades, 0);
     numbers(b"the next 8 numbers", &trades, 8);
@@ -391,73 +411,50 @@ fn traded(
 }
 
 // A kept order whose trades are not looked at.
-fn kept(s: State, participant: u64, side: Side, security: u64, price: u64, lots: u64) -> State {
+fn order(s: State, participant: u64, t: Ticket) -> Outcome {
     let mut trades = [0u64; 1088];
-    let o = enter_order(
+    let side = t.side;
+    let force = TimeInForce::Kept;
+    enter_order(
         s,
         participant,
         side,
-        security,
-        price,
-        lots,
-        TimeInForce::Kept,
+        t.security,
+        t.price,
+        t.lots,
+        force,
         &mut trades,
-    );
+    )
+}
+
+fn kept(s: State, participant: u64, t: Ticket) -> State {
+    let o = order(s, participant, t);
     o.state
 }
 
 fn one_trade() {
-    let s = kept(funded(), 1, Side::Sell, 0, 95, 10);
-    let s = traded(
-        b"buy 20 at 100",
-        s,
-        0,
-        Side::Buy,
-        100,
-        20,
-        TimeInForce::Kept,
-    );
-    traded(
-        b"sell 5 whole or nothing",
-        s,
-        1,
-        Side::Sell,
-        100,
-        5,
-        TimeInForce::FillOrKill,
-    );
+    let s = kept(funded(), 1, sell(0, 95, 10));
+    let s = traded(b"buy 20 at 100", s, 0, buy(0, 100, 20), TimeInForce::Kept);
+    let force = TimeInForce::FillOrKill;
+    traded(b"sell 5 whole or nothing", s, 1, sell(0, 100, 5), force);
 }
 
 fn own_order() {
     let o = increase_pieces(funded(), 0, 0, 100);
-    let s = kept(o.state, 0, Side::Sell, 0, 95, 10);
-    traded(
-        b"buy 10 at 100 from himself",
-        s,
-        0,
-        Side::Buy,
-        100,
-        10,
-        TimeInForce::Kept,
-    );
+    let s = kept(o.state, 0, sell(0, 95, 10));
+    let label = b"buy 10 at 100 from himself";
+    traded(label, s, 0, buy(0, 100, 10), TimeInForce::Kept);
 }
 
 fn three_sells() -> State {
-    let s = kept(funded(), 1, Side::Sell, 0, 100, 5);
-    let s = kept(s, 1, Side::Sell, 0, 95, 5);
-    kept(s, 1, Side::Sell, 0, 95, 5)
+    let s = kept(funded(), 1, sell(0, 100, 5));
+    let s = kept(s, 1, sell(0, 95, 5));
+    kept(s, 1, sell(0, 95, 5))
 }
 
 fn bought_at_once(label: &[u8], s: State, lots: u64) -> State {
-    traded(
-        label,
-        s,
-        0,
-        Side::Buy,
-        100,
-        lots,
-        TimeInForce::ImmediateOrCancel,
-    )
+    let force = TimeInForce::ImmediateOrCancel;
+    traded(label, s, 0, buy(0, 100, lots), force)
 }
 
 fn priorities() {
@@ -467,9 +464,7 @@ fn priorities() {
 }
 
 fn bought(label: &[u8], s: State) {
-    let mut trades = [0u64; 1088];
-    let o = enter_order(s, 0, Side::Buy, 0, 5, 1, TimeInForce::Kept, &mut trades);
-    after(label, o);
+    after(label, order(s, 0, buy(0, 5, 1)));
 }
 
 fn order_codes() {
@@ -483,22 +478,17 @@ fn order_codes() {
     bought(b"the last code", s);
 }
 
-fn ticket(side: Side, security: u64, price: u64, lots: u64) -> Ticket {
-    Ticket {
-        side,
-        security,
-        price,
-        lots,
-    }
-}
-
-// Participant 0 has 100 pieces of security 0; participant 1 buys 10 of it at 100 and sells 10 of security 1 at 95.
-fn linked_day() -> State {
+fn linked_reserves() -> State {
     let o = increase_pieces(day(), 0, 0, 100);
     let o = increase_money(o.state, 1, 0, 10000);
     let o = increase_pieces(o.state, 1, 1, 100);
-    let s = kept(o.state, 1, Side::Buy, 0, 100, 10);
-    kept(s, 1, Side::Sell, 1, 95, 10)
+    o.state
+}
+
+// Participant 0 has 100 pieces of security 0; participant 1 buys 10 lots of it at 100 and sells 10 of security 1 at 95.
+fn linked_day() -> State {
+    let s = kept(linked_reserves(), 1, buy(0, 100, 10));
+    kept(s, 1, sell(1, 95, 10))
 }
 
 // A group of participant 0, lent a list of sevens; then 8 numbers of the list from `first` on.
@@ -511,8 +501,8 @@ fn grouped(label: &[u8], s: State, count: u64, members: [Ticket; 8], listed: &[u
 
 // 10 lots of security 0 are sold at 100, then 10 of security 1 bought at this price.
 fn sold_and_bought(price: u64) -> [Ticket; 8] {
-    let mut members = [ticket(Side::Sell, 0, 100, 10); 8];
-    members[1] = ticket(Side::Buy, 1, price, 10);
+    let mut members = [sell(0, 100, 10); 8];
+    members[1] = buy(1, price, 10);
     members
 }
 
@@ -536,8 +526,8 @@ fn groups_of_two() {
 }
 
 fn group_of_eight() {
-    let mut members = [ticket(Side::Sell, 0, 100, 1); 8];
-    members[7] = ticket(Side::Sell, 0, 105, 3);
+    let mut members = [sell(0, 100, 1); 8];
+    members[7] = sell(0, 105, 3);
     grouped(
         b"eight members, the last refused: 15, place 8",
         linked_day(),
@@ -550,7 +540,7 @@ fn group_of_eight() {
 
 fn linked_pair(label: &[u8], s: State) {
     let mut trades = [0u64; 1088];
-    let members = [ticket(Side::Sell, 0, 100, 1); 8];
+    let members = [sell(0, 100, 1); 8];
     let o = enter_group(s, 0, 2, members, &mut trades);
     after(label, o);
 }
@@ -566,9 +556,9 @@ fn group_codes() {
 
 // Trades 10 at 95 and 5 at 100: the closing price is 96. Participant 0 still buys 5 at 100.
 fn turned_over() -> State {
-    let s = kept(funded(), 1, Side::Sell, 0, 95, 10);
-    let s = kept(s, 0, Side::Buy, 0, 100, 20);
-    kept(s, 1, Side::Sell, 0, 100, 5)
+    let s = kept(funded(), 1, sell(0, 95, 10));
+    let s = kept(s, 0, buy(0, 100, 20));
+    kept(s, 1, sell(0, 100, 5))
 }
 
 fn closing() -> State {
