@@ -33,6 +33,8 @@ def names_by_crate():
 def exists(name, names, edits, everywhere):
     if name.startswith("crates/") or name.startswith("tests/"):
         return (ROOT / name).exists()
+    if name.endswith(".script"):
+        return (CRATES / "script_cases/data" / name).exists() or name == "NAME.script"
     if "::" in name:
         crate, function = name.split("::", 1)
         return crate in names and function in names[crate]
