@@ -20,11 +20,11 @@ use Rattle.printing.proofs.Lines.{answer-length}
 use Rattle.printing.proofs.Buffer.{drop-further, puts-none, puts-then}
 use Rattle.printing.proofs.Runs.{flat-lines}
 use Rattle.commands.specs.Command.{Does, carried}
-use Rattle.commands.specs.Output.{commandLines, fitting, joined, outputsFrom}
+use Rattle.commands.specs.Output.{commandLines, withRoom, joined, outputsFrom}
 use Rattle.commands.specs.declared.Stand.{Stand}
 use Rattle.commands.specs.Stand.{Going, Onward, room, toPrint}
 use Rattle.commands.proofs.Rounds.{outputs-next}
-use Rattle.commands.proofs.Fitting.{fitting-next}
+use Rattle.commands.proofs.WithRoom.{with-room-next}
 
 -- a command's trades have room in the list and in the buffer
 pub trades-fit : {out out′ : List ℕ} {at end : ℕ} (trades : List ℕ) (line : ℕ) (a : Answer) (count : ℕ)
@@ -144,13 +144,13 @@ command-next text r m k s before after lent m′ k′ list′ c o end g h enough
         commandLines (s .line) (carried d (c .says) (c .members)) ∷ outputsFrom x (s .line + c .lines) (drop (c .next) text))
         (does .day)))
 
-    fits : fitting (length before - s .filled) (outputsFrom d (s .line) (drop (s .at) text))
-        ≡ bytes ++ fitting (length after - end) later
+    fits : withRoom (length before - s .filled) (outputsFrom d (s .line) (drop (s .at) text))
+        ≡ bytes ++ withRoom (length after - end) later
     fits =
         let left : length before - s .filled - length bytes ≡ length after - end = omega (arith, p .end, p .size) in
-        ap (fitting (length before - s .filled)) next
-        ∙ fitting-next (length before - s .filled) bytes later (omega (arith, enough))
-        ∙ ap (λ (n : ℕ). bytes ++ fitting n later) left
+        ap (withRoom (length before - s .filled)) next
+        ∙ with-room-next (length before - s .filled) bytes later (omega (arith, enough))
+        ∙ ap (λ (n : ℕ). bytes ++ withRoom n later) left
 
 pub onward-none : (text : List ℕ) (r : Rules) (m k : List ℕ) (s : Stand) (out : List ℕ) → Going text r m k s
     → s .filled ≤ length out → Onward text r m k s out m k s out

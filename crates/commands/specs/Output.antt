@@ -37,6 +37,6 @@ abbrev pub room : ℕ
 room = 32768
 
 -- outputs one behind another as far as each begins with that much room, in a buffer with n bytes left
-unfoldable pub fitting : ℕ → List (List ℕ) → List ℕ
-fitting n [] = []
-fitting n (o ∷ os) = cond (room ≤? n) (o ++ fitting (n - length o) os) []
+unfoldable pub withRoom : ℕ → List (List ℕ) → List ℕ
+withRoom n [] = []
+withRoom n (o ∷ os) = cond (room ≤? n) (o ++ withRoom (n - length o) os) []

@@ -10,7 +10,7 @@ use Rattle.market.specs.View.{dayOf}
 use Rattle.market.specs.Parts.{Ready}
 use Rattle.heading.specs.Heading.{maxText}
 use Rattle.commands.specs.declared.Stand.{Stand}
-use Rattle.commands.specs.Output.{fitting, joined, outputsFrom}
+use Rattle.commands.specs.Output.{withRoom, joined, outputsFrom}
 pub use Rattle.commands.specs.Output.{room}
 
 -- what is still to be printed
@@ -35,8 +35,8 @@ pub record Onward (text : List ℕ) (r : Rules) (m k : List ℕ) (s : Stand) (be
   pub forward : s .filled ≤ s′ .filled
   pub whole : take (s′ .filled) after ++ joined (toPrint text r m′ k′ s′)
       ≡ take (s .filled) before ++ joined (toPrint text r m k s)
-  pub fits : take (s′ .filled) after ++ fitting (length after - s′ .filled) (toPrint text r m′ k′ s′)
-      ≡ take (s .filled) before ++ fitting (length before - s .filled) (toPrint text r m k s)
+  pub fits : take (s′ .filled) after ++ withRoom (length after - s′ .filled) (toPrint text r m′ k′ s′)
+      ≡ take (s .filled) before ++ withRoom (length before - s .filled) (toPrint text r m k s)
   pub past : drop (s′ .filled) after ≡ drop (s′ .filled) before
 
 -- is there a command, and room for it?

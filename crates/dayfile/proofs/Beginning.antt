@@ -13,8 +13,8 @@ use Rattle.printing.specs.Buffer.{Puts}
 use Rattle.printing.specs.Lines.{answerLine}
 use Rattle.heading.specs.declared.Headed.{Headed}
 use Rattle.heading.specs.Heading.{ReadsHeading, heading, maxText}
-use Rattle.commands.specs.Output.{fitting, joined}
-use Rattle.commands.proofs.Fitting.{fitting-end, fitting-next, fitting-none}
+use Rattle.commands.specs.Output.{withRoom, joined}
+use Rattle.commands.proofs.WithRoom.{with-room-end, with-room-next, with-room-none}
 use Rattle.dayfile.specs.declared.Run.{Run}
 use Rattle.dayfile.specs.Output.{afterHeading, outputs, tooLong}
 use Rattle.dayfile.specs.Run.{Begins, Going, TooLong, left, room}
@@ -32,10 +32,10 @@ begins-first {text} {before} {after} {bytes} {r} enough p e going = record {
   whole = λ _. ap (λ (l : List ℕ). l ++ joined (left text r)) (p .text) ∙ sym (ap joined e);
   fits =
       let rest : length before - length bytes ≡ length after - r .filled = omega (arith, p .end, p .size) in
-      ap (λ (l : List ℕ). l ++ fitting (length after - r .filled) (left text r)) (p .text)
-      ∙ sym (ap (fitting (length before)) e
-      ∙ fitting-next (length before) bytes (left text r) enough
-      ∙ ap (λ (n : ℕ). bytes ++ fitting n (left text r)) rest);
+      ap (λ (l : List ℕ). l ++ withRoom (length after - r .filled) (left text r)) (p .text)
+      ∙ sym (ap (withRoom (length before)) e
+      ∙ with-room-next (length before) bytes (left text r) enough
+      ∙ ap (λ (n : ℕ). bytes ++ withRoom n (left text r)) rest);
   past = p .past;
 }
 
@@ -49,10 +49,10 @@ begins-small {text} {before} {r} less over none = record {
   filled = omega (arith, none);
   whole = λ enough. absurd (omega (arith, less, enough));
   fits =
-      ap (λ (n : ℕ). take n before ++ fitting (length before - r .filled) (left text r)) none
-      ∙ ap (fitting (length before - r .filled)) (none-left text r over)
-      ∙ fitting-end (length before - r .filled)
-      ∙ sym (fitting-none (length before) (outputs text) less);
+      ap (λ (n : ℕ). take n before ++ withRoom (length before - r .filled) (left text r)) none
+      ∙ ap (withRoom (length before - r .filled)) (none-left text r over)
+      ∙ with-room-end (length before - r .filled)
+      ∙ sym (with-room-none (length before) (outputs text) less);
   past = refl;
 }
 

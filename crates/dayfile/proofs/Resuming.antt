@@ -21,11 +21,11 @@ use Rattle.printing.specs.Buffer.{Puts}
 use Rattle.printing.specs.Lines.{positionLines}
 use Rattle.printing.proofs.Buffer.{drop-further}
 use Rattle.commands.specs.declared.Stand.{Stand}
-use Rattle.commands.specs.Output.{fitting, joined, outputsFrom}
+use Rattle.commands.specs.Output.{withRoom, joined, outputsFrom}
 use Rattle.commands.specs.Stand as stand
 use Rattle.commands.specs.Stand.{Runs, goesOn, room, toPrint}
 use Rattle.commands.proofs.Rounds.{outputs-end}
-use Rattle.commands.proofs.Fitting.{fitting-end, fitting-next}
+use Rattle.commands.proofs.WithRoom.{with-room-end, with-room-next}
 use Rattle.dayfile.specs.declared.Run.{Run}
 use Rattle.dayfile.specs.Run as run
 use Rattle.dayfile.specs.Run.{Fills, ahead, left, toGo}
@@ -143,10 +143,10 @@ module _ {text before after m k : List ℕ} {x : Rules} {b : OrderBook} {last : 
       whole : take (last .filled) after ++ joined (later (view z)) ≡ take (from .filled) before ++ joined (ahead text from)
       whole = ap (λ (d : Day). take (last .filled) after ++ joined (later d)) e ∙ h .onward .whole
 
-      fits : take (last .filled) after ++ fitting (length after - last .filled) (later (view z))
-          ≡ take (from .filled) before ++ fitting (length before - from .filled) (ahead text from)
+      fits : take (last .filled) after ++ withRoom (length after - last .filled) (later (view z))
+          ≡ take (from .filled) before ++ withRoom (length before - from .filled) (ahead text from)
       fits =
-          ap (λ (d : Day). take (last .filled) after ++ fitting (length after - last .filled) (later d)) e
+          ap (λ (d : Day). take (last .filled) after ++ withRoom (length after - last .filled) (later d)) e
           ∙ h .onward .fits
 
   -- it has room, so that no command is left: the positions, and the run is over
@@ -164,7 +164,7 @@ module _ {text before after m k : List ℕ} {x : Rules} {b : OrderBook} {last : 
       whole = rw still (append-nil (take end out) ∙ p .text ∙ ap (λ (l : List ℕ). take (last .filled) after ++ l) all ∙ h .onward .whole);
       fits =
           rw still
-          (ap (λ (l : List ℕ). take end out ++ l) (fitting-end (length out - end))
+          (ap (λ (l : List ℕ). take end out ++ l) (with-room-end (length out - end))
           ∙ append-nil (take end out) ∙ p .text
           ∙ ap (λ (l : List ℕ). take (last .filled) after ++ l) fits
           ∙ h .onward .fits);
@@ -188,9 +188,9 @@ module _ {text before after m k : List ℕ} {x : Rules} {b : OrderBook} {last : 
       all : lines ≡ joined (toPrint text (rulesOf (from .state)) m k last)
       all = sym (ap joined positions ∙ append-nil lines)
 
-      fits : lines ≡ fitting (length after - last .filled) (toPrint text (rulesOf (from .state)) m k last)
+      fits : lines ≡ withRoom (length after - last .filled) (toPrint text (rulesOf (from .state)) m k last)
       fits =
-          sym (ap (fitting (length after - last .filled)) positions
-          ∙ fitting-next (length after - last .filled) lines [] (omega (arith, enough))
-          ∙ ap (λ (l : List ℕ). lines ++ l) (fitting-end (length after - last .filled - length lines))
+          sym (ap (withRoom (length after - last .filled)) positions
+          ∙ with-room-next (length after - last .filled) lines [] (omega (arith, enough))
+          ∙ ap (λ (l : List ℕ). lines ++ l) (with-room-end (length after - last .filled - length lines))
           ∙ append-nil lines)

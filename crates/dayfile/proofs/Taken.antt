@@ -9,22 +9,22 @@ use lib.ListN.{drop, length, take, length-append}
 use lib.Seq.{take-append-add, take-at, take-length}
 use borrow.Author.Tests.{eq-eqb, eqb-true}
 use Rattle.market.specs.Tests.{_=?_, _≤?_}
-use Rattle.commands.specs.Output.{fitting, joined, room}
-use Rattle.commands.proofs.Fitting.{fitting-all}
+use Rattle.commands.specs.Output.{withRoom, joined, room}
+use Rattle.commands.proofs.WithRoom.{with-room-all}
 use Rattle.dayfile.specs.Output.{outputs, printed}
 use Rattle.dayfile.specs.Run.{Prints, taken}
 
-pub fitting-front : (n : ℕ) (os : List (List ℕ)) → take (length (fitting n os)) (joined os) ≡ fitting n os
-unfolding fitting
-fitting-front n [] = refl
-fitting-front n (o ∷ os) = go (room ≤? n) (fitting-front (n - length o) os)
+pub with-room-front : (n : ℕ) (os : List (List ℕ)) → take (length (withRoom n os)) (joined os) ≡ withRoom n os
+unfolding withRoom
+with-room-front n [] = refl
+with-room-front n (o ∷ os) = go (room ≤? n) (with-room-front (n - length o) os)
   where
-    go : (k : Bool) → take (length (fitting (n - length o) os)) (joined os) ≡ fitting (n - length o) os
-        → take (length (cond k (o ++ fitting (n - length o) os) [])) (o ++ joined os)
-        ≡ cond k (o ++ fitting (n - length o) os) []
+    go : (k : Bool) → take (length (withRoom (n - length o) os)) (joined os) ≡ withRoom (n - length o) os
+        → take (length (cond k (o ++ withRoom (n - length o) os) [])) (o ++ joined os)
+        ≡ cond k (o ++ withRoom (n - length o) os) []
     go true e =
-        ap (λ (i : ℕ). take i (o ++ joined os)) (length-append o (fitting (n - length o) os))
-        ∙ take-append-add o (joined os) (length (fitting (n - length o) os))
+        ap (λ (i : ℕ). take i (o ++ joined os)) (length-append o (withRoom (n - length o) os))
+        ∙ take-append-add o (joined os) (length (withRoom (n - length o) os))
         ∙ ap (λ (l : List ℕ). o ++ l) e
     go false e = refl
 
@@ -41,13 +41,13 @@ module _ {text before after : List ℕ} {n : ℕ} (p : Prints text before n afte
       go true q e =
           ap (take n) (p .buffer)
           ∙ take-at bytes (drop (length bytes) before) n (sym e)
-          ∙ sym (fitting-front (length before) (outputs text))
+          ∙ sym (with-room-front (length before) (outputs text))
           ∙ ap (λ (i : ℕ). take i (printed text)) (eqb-true (length bytes) (length (printed text)) q)
           ∙ take-length (printed text)
 
   pub prints-enough : length (printed text) + room ≤ length before → n ≡ length (printed text)
   prints-enough h =
-      let all : bytes ≡ printed text = fitting-all (length before) (outputs text) h in
+      let all : bytes ≡ printed text = with-room-all (length before) (outputs text) h in
       p .number
       ∙ ap (λ (l : List ℕ). cond (length l =? length (printed text)) (length l) 0) all
       ∙ rw (eq-eqb (length (printed text)) (length (printed text)) refl)

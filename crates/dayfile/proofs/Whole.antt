@@ -10,8 +10,8 @@ use borrow.Author.Tests.{eq-eqb, leb-false, leb-true, ne-eqb}
 use Rattle.market.specs.Tests.{_=?_, _≤?_}
 use Rattle.market.proofs.Logic.{never}
 use Rattle.printing.proofs.Buffer.{drop-further}
-use Rattle.commands.specs.Output.{fitting, joined}
-use Rattle.commands.proofs.Fitting.{fitting-end, fitting-none}
+use Rattle.commands.specs.Output.{withRoom, joined}
+use Rattle.commands.proofs.WithRoom.{with-room-end, with-room-none}
 use Rattle.dayfile.specs.declared.Run.{Run}
 use Rattle.dayfile.specs.Output.{outputs, printed}
 use Rattle.dayfile.specs.Run.{Begins, Continues, Prints, left, room, taken}
@@ -45,7 +45,7 @@ module _ {text before after : List ℕ} {r : Run} (b : Begins text before r afte
       go false q = never (sym e ∙ b .small (leb-false room (length before) q))
 
   -- nothing that is left has room
-  module _ (full : fitting (length after - r .filled) (left text r) ≡ []) where
+  module _ (full : withRoom (length after - r .filled) (left text r) ≡ []) where
     part : take (r .filled) after ≡ taken (length before) text
     part = sym (append-nil (take (r .filled) after)) ∙ ap (λ (l : List ℕ). take (r .filled) after ++ l) (sym full) ∙ b .fits
 
@@ -65,8 +65,8 @@ module _ {text before after : List ℕ} {r : Run} (b : Begins text before r afte
   prints-over e =
       prints full (go (room ≤? length before) refl)
     where
-      full : fitting (length after - r .filled) (left text r) ≡ []
-      full = ap (fitting (length after - r .filled)) (none-left text r e) ∙ fitting-end (length after - r .filled)
+      full : withRoom (length after - r .filled) (left text r) ≡ []
+      full = ap (withRoom (length after - r .filled)) (none-left text r e) ∙ with-room-end (length after - r .filled)
 
       bytes : List ℕ
       bytes = taken (length before) text
@@ -81,13 +81,13 @@ module _ {text before after : List ℕ} {r : Run} (b : Begins text before r afte
           ∙ ap (λ (os : List (List ℕ)). take (r .filled) after ++ joined os) (sym (none-left text r e))
           ∙ b .whole (leb-true room (length before) q))
       go false q =
-          let none = ap length (fitting-none (length before) (outputs text) (leb-false room (length before) q)) in
+          let none = ap length (with-room-none (length before) (outputs text) (leb-false room (length before) q)) in
           let zero : r .filled ≡ 0 = omega (arith, none, count full) in
           zero ∙ number-less bytes (printed text) (omega (arith, none, printed-some text))
 
   pub prints-none : r .over ≡ false → length after < r .filled + room → Prints text before 0 after
   prints-none e h =
-      let full = fitting-none (length after - r .filled) (left text r) (omega (arith, h)) in
+      let full = with-room-none (length after - r .filled) (left text r) (omega (arith, h)) in
       let two = length-append (take (r .filled) after) (joined (left text r)) in
       let whole = ap length (b .whole (begins-room e)) in
       let first = length-take-le (r .filled) after (b .filled) in

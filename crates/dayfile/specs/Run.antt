@@ -11,7 +11,7 @@ use Rattle.market.specs.Sound.{sound}
 use Rattle.printing.specs.Buffer.{Puts}
 use Rattle.printing.specs.Lines.{answerLine}
 use Rattle.heading.specs.Heading.{maxText}
-use Rattle.commands.specs.Output.{fitting, joined, outputsFrom}
+use Rattle.commands.specs.Output.{withRoom, joined, outputsFrom}
 pub use Rattle.commands.specs.Stand.{room}
 use Rattle.dayfile.specs.declared.Run.{Run}
 use Rattle.dayfile.specs.Output.{outputs, printed, tooLong}
@@ -57,8 +57,8 @@ pub record Begins (text before : List ℕ) (r : Run) (after : List ℕ) : Type 0
   pub size : length after ≡ length before
   pub filled : r .filled ≤ length after
   pub whole : room ≤ length before → take (r .filled) after ++ joined (left text r) ≡ printed text
-  pub fits : take (r .filled) after ++ fitting (length after - r .filled) (left text r)
-      ≡ fitting (length before) (outputs text)
+  pub fits : take (r .filled) after ++ withRoom (length after - r .filled) (left text r)
+      ≡ withRoom (length before) (outputs text)
   pub past : drop (r .filled) after ≡ drop (r .filled) before
 
 -- r′ goes on from r: what stands in the buffer makes up the same as before with what is left, and with what of that has
@@ -69,8 +69,8 @@ pub record Continues (text : List ℕ) (r : Run) (before : List ℕ) (r′ : Run
   pub filled : r′ .filled ≤ length after
   pub forward : r .filled ≤ r′ .filled
   pub whole : take (r′ .filled) after ++ joined (left text r′) ≡ take (r .filled) before ++ joined (left text r)
-  pub fits : take (r′ .filled) after ++ fitting (length after - r′ .filled) (left text r′)
-      ≡ take (r .filled) before ++ fitting (length before - r .filled) (left text r)
+  pub fits : take (r′ .filled) after ++ withRoom (length after - r′ .filled) (left text r′)
+      ≡ take (r .filled) before ++ withRoom (length before - r .filled) (left text r)
   pub past : drop (r′ .filled) after ≡ drop (r′ .filled) before
   pub less : toGo text r′ < toGo text r
 
@@ -81,7 +81,7 @@ pub record Fills (text : List ℕ) (r : Run) (before : List ℕ) (r′ : Run) (a
 
 -- what a buffer of this size takes of the day
 abbrev pub taken : ℕ → List ℕ → List ℕ
-taken size text = fitting size (outputs text)
+taken size text = withRoom size (outputs text)
 
 -- the whole day in one buffer: what the buffer takes stands at its start, what stood behind it stays; n is how many bytes
 -- that is if it is all that is printed, else 0

@@ -41,12 +41,7 @@ ghost use Rattle.session.specs.Pairing.{Closable, ClosingPairs, Ends, Pa
 ghost use Rattle.session.specs.Appending.{Appendable, Appends, Askable, ClosingNo, closingWith, earlyClosing, laterClosing};
 
 // The needs of all waiting orders are freed. The caller's book has no orders then: `book.count = 0`.
-fn free_all(
-    book: OrderBook,
-    table: [Security; 16],
-    money: &mut [u64; 512],
-    pieces: &mut [u64; 512],
-)
+fn free_all(book: OrderBook, table: [Security; 16], money: &mut [u64; 512], pieces: &mut [u64; 512])
     requires { ⌜ Leavable table book (now money) (now pieces) ⌝ }
     ensures { λ _. ⌜ AllLeft table book (now (money .entry)) (now (pieces .entry)) (now (money .exit)) (now (pieces .exit)) ⌝ }
 {
