@@ -25,4 +25,6 @@ part "proofs, must-fail edits and stored outputs" proofs
 part "the model's own tests" make --no-print-directory model
 part "library and model on generated days" make --no-print-directory compare
 part "program and model on generated days" make --no-print-directory program
+part "an example script" make --no-print-directory replay
+part "library, program and model on generated scripts" make --no-print-directory scripts
 tail -n 1 "$verdict"

@@ -6,7 +6,7 @@ use std::path::{Path, PathBuf};
 /// Each feature that links a library, as the build script sees it.
 const LIBRARIES: [(&str, &str); 2] = [
     ("CARGO_FEATURE_ENGINE", "libexports.a"),
-    ("CARGO_FEATURE_REPLAY", "libreplay.a"),
+    ("CARGO_FEATURE_REPLAY", "libscript.a"),
 ];
 
 fn main() {

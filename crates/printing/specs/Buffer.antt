@@ -15,3 +15,7 @@ pub record Puts (before : List ℕ) (at : ℕ) (bytes : List ℕ) (after : List 
 -- what a line of n numbers takes at most: its letter, a comma and 20 digits for each number, its end
 abbrev pub lineRoom : ℕ → ℕ
 lineRoom n = 2 + 21 * n
+
+-- the same with a word of m letters
+abbrev pub wordedRoom : ℕ → ℕ → ℕ
+wordedRoom m n = m + 1 + 21 * n

@@ -43,6 +43,10 @@ unfoldable pub numberFields : List ℕ → List ℕ
 numberFields [] = []
 numberFields (n ∷ ns) = comma ∷ (decimal n ++ numberFields ns)
 
+-- a word, numbers, the end of the line
+unfoldable pub wordedLine : List ℕ → List ℕ → List ℕ
+wordedLine word ns = word ++ (numberFields ns ++ (lineEnd ∷ []))
+
 -- a letter, numbers, the end of the line
 unfoldable pub printedLine : ℕ → List ℕ → List ℕ
 printedLine letter ns = letter ∷ (numberFields ns ++ (lineEnd ∷ []))

@@ -1,5 +1,5 @@
 // Runs the scripts that its arguments name, one after another: a line with the name, then what the script prints.
-use script::print_script;
+use player::print_script;
 use streams::Input;
 use streams::read_whole;
 use streams::write_first;

@@ -19,7 +19,7 @@ extern "C" {
 }
 
 #[cfg(feature = "replay")]
-#[link(name = "replay", kind = "static")]
+#[link(name = "script", kind = "static")]
 extern "C" {
     fn run_script(
         text: *const u8,
