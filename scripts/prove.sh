@@ -40,3 +40,4 @@ if ! rt "$verb" "$name" 2>&1 | tee "$log" | progress; then
     cat "$log" >&2
     exit 1
 fi
+[ "$verb" != staticlib ] || echo "$total of $total: $name proved, target/staticlib/lib$name.a is built" >&2
