@@ -1,36 +1,53 @@
-.PHONY: test run beamgantry library compare program bench copies
+.PHONY: test model run beamgantry library compare program replay replay_program script_library scripts bench copies
 
-# A day file for `make run`, and the generated days for `make compare`.
+# A day file for `make run`, a script for `make replay`, and the generated days for `make compare`.
 DAY ?= crates/day_cases/data/worked-example.day
+SCRIPT ?= crates/replay/stdin
 FIRST ?= 1
 COUNT ?= 6000
 
 MODEL = cargo run --quiet --release --manifest-path tests/model/Cargo.toml --
 
-# The model and its comparison first; rt ci is last, and its last line is the verdict.
-test: compare program
-	@rt fmt --check
+# The last line is the verdict of `rt ci`.
+test:
+	@scripts/test.sh
+
+# The model's own tests, which link both libraries, as every use of the model does.
+model: library script_library
 	@cargo test --quiet --release --manifest-path tests/model/Cargo.toml
-	@rt ci
 
 run: beamgantry
 	@target/bin/beamgantry < $(DAY)
 
 # Proves what the program needs, where that is not done yet, and builds it; the same for the library.
 beamgantry:
-	@mkdir -p target && rt check beamgantry > target/beamgantry.log 2>&1 || { cat target/beamgantry.log; exit 1; }
+	@scripts/prove.sh check beamgantry
 
 library:
-	@mkdir -p target && rt staticlib exports > target/library.log 2>&1 || { cat target/library.log; exit 1; }
+	@scripts/prove.sh staticlib exports
 
-compare: library
+script_library:
+	@scripts/prove.sh staticlib script
+
+compare: library script_library
 	@$(MODEL) compare $(FIRST) $(COUNT)
 
-# The program itself, through pipes.
-program: beamgantry library
+# The program itself, through pipes, also such as make it wait or fail.
+program: beamgantry library script_library
 	@$(MODEL) program target/bin/beamgantry 1 300
 
-bench: library
+replay_program:
+	@scripts/prove.sh check replay
+
+# Scripts: one from a file; library, program and model on generated ones.
+replay: replay_program
+	@target/bin/replay < $(SCRIPT)
+
+scripts: replay_program library script_library
+	@$(MODEL) scripts 1 3000
+	@$(MODEL) replay target/bin/replay 1 100
+
+bench: library script_library
 	@$(MODEL) bench
 
 # Bytes that the program copies per command, by kind.

@@ -29,6 +29,7 @@ kind 'order refused (7)' "$start" "$(repeat 'B,0,0,100,10001,I\n' 1000)" 1000
 kind 'order refused (14)' "$start" "$(repeat 'B,1,0,100,1,I\n' 1000)" 1000
 kind 'order refused (15)' "$start" "$(repeat 'B,0,0,100,1,A\n' 1000)" 1000
 kind 'increase' "$start" "$(repeat 'R,0,0,1\n' 1000)" 1000
+kind 'cancellation' "$start$(repeat 'L,1,0,200,1,K\n' 100)" "$(seq -f 'X,1,%.0f\n' 100 | tr -d '\n')" 100
 kind 'cancellation refused (16)' "$start" "$(repeat 'X,0,1\n' 1000)" 1000
 kind 'group of 8, one trade each' "${start}L,1,0,200,10000,K\n" "$(repeat 'G,0,8\nM,B,0,200,1\nM,B,0,200,1\nM,B,0,200,1\nM,B,0,200,1\nM,B,0,200,1\nM,B,0,200,1\nM,B,0,200,1\nM,B,0,200,1\n' 100)" 100
 kind 'start of closing, 64 waiting' "$start$(repeat 'L,1,0,200,1,K\n' 64)" 'C\n' 1

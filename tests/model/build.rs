@@ -1,20 +1,28 @@
-//! Tells the linker where the engine's static library lies.
+//! Tells the linker where the engine's static libraries lie.
 
 use std::env;
-use std::path::PathBuf;
+use std::path::{Path, PathBuf};
+
+/// Each feature that links a library, as the build script sees it.
+const LIBRARIES: [(&str, &str); 2] = [
+    ("CARGO_FEATURE_ENGINE", "libexports.a"),
+    ("CARGO_FEATURE_REPLAY", "libscript.a"),
+];
 
 fn main() {
     println!("cargo:rerun-if-changed=build.rs");
     println!("cargo:rerun-if-env-changed=ENGINE_LIBRARY");
-    if env::var_os("CARGO_FEATURE_ENGINE").is_none() {
-        return;
-    }
     let folder = library_folder();
+    for (feature, library) in LIBRARIES {
+        if env::var_os(feature).is_some() {
+            link(&folder, library);
+        }
+    }
+}
+
+fn link(folder: &Path, library: &str) {
     println!("cargo:rustc-link-search=native={}", folder.display());
-    println!(
-        "cargo:rerun-if-changed={}",
-        folder.join("libexports.a").display()
-    );
+    println!("cargo:rerun-if-changed={}", folder.join(library).display());
 }
 
 fn library_folder() -> PathBuf {

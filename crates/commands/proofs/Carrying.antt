@@ -13,6 +13,7 @@ use Rattle.market.specs.declared.Carried.{Carried}
 use Rattle.market.specs.declared.OrderBook.{OrderBook}
 use Rattle.market.specs.declared.Phase.{Phase}
 use Rattle.market.specs.declared.Rules.{Rules}
+use Rattle.market.specs.declared.Side.{Side}
 use Rattle.market.specs.declared.Ticket.{Ticket}
 use Rattle.market.specs.declared.TimeInForce.{TimeInForce}
 use Rattle.market.specs.declared.Turnover.{Turnover}
@@ -24,7 +25,7 @@ use Rattle.market.specs.Sound.{sound}
 use Rattle.market.specs.TradeList.{written}
 use Rattle.market.specs.Answers.{numbersOf, refused}
 use Rattle.market.specs.Calls.{Call}
-use Rattle.market.specs.Questions.{entryQuestions}
+use Rattle.market.specs.Questions.{closingQuestions, entryQuestions}
 use Rattle.market.specs.Step.{result, step}
 use Rattle.market.specs.Parts.{Carries, Ready}
 use Rattle.market.proofs.Logic.{and-true}
@@ -36,6 +37,7 @@ use Rattle.lines.specs.declared.Line.{Line}
 use Rattle.lines.specs.declared.Line.the-variants as line
 use Rattle.reading.proofs.Tags.{OtherLine, callTag, otherLines}
 use Rattle.orders.specs.Entering.{EntryNo, Known}
+use Rattle.session.specs.Appending.{Askable, ClosingNo}
 use Rattle.commands.specs.Command.{Does, called, carried}
 use Rattle.commands.specs.Stand.{goesOn, room}
 
@@ -96,6 +98,21 @@ module _ (r : Rules) (x : Phase) (t : List Turnover) (count codes : ℕ) (m k : 
       let qs = entryQuestions (dayOf r x m k b) p q f in
       let y = all-yes qs tt (sym (asks b refl refl refl)) in
       omega (arith, ltb-true (q .security) (r .securities) (yes 5 qs y), known .rules .securities)
+
+-- a closing order whose questions are all answered "yes"
+module _ (r : Rules) (x : Phase) (t : List Turnover) (count codes : ℕ) (m k : List ℕ) (p : ℕ) (side : Side) (s n : ℕ) where
+  pub closing-none : {i : ℕ} → i ≤ 0 → ClosingNo r x t count codes m k p side s n i
+      → ClosingNo r x t count codes m k p side s n 0
+  closing-none h asks = λ b e1 e2 e3. let e = asks b e1 e2 e3 in omega (arith, e, h)
+
+  pub closing-listed : Askable r t codes → ClosingNo r x t count codes m k p side s n 0 → s < maxSecurities
+  unfolding closingQuestions
+  closing-listed known asks =
+      let b : OrderBook =
+      record { orders = []; count = count; codes = codes; turnover = t; filled = 0; left = 0; trades = 0 } in
+      let qs = closingQuestions (dayOf r x m k b) p side s n in
+      let y = all-yes qs tt (sym (asks b refl refl refl)) in
+      omega (arith, ltb-true s (r .securities) (yes 5 qs y), known .rules .securities)
 
 -- is there a command, and room for it?
 pub text-over : (all at size filled : ℕ) → all ≤ at → false ≡ goesOn all at size filled

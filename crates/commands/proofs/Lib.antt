@@ -1,4 +1,5 @@
 pub mod Rounds
+pub mod WithRoom
 pub mod Placing
 pub mod Carrying
 pub mod Loop

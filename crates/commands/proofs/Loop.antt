@@ -1,5 +1,5 @@
 -- A command in the loop: by what came of its line before any waiting order was read.
-use Prim.Native.Nat.{ℕ}
+use Prim.Native.Nat.{ℕ, _<_}
 use native.Mathlib.Omega.{arith}
 use mathlib.Core.Path.{_≡_, refl, sym, ap, subst, _∙_}
 use mathlib.Core.List.{List}
@@ -16,15 +16,24 @@ use Rattle.market.specs.declared.Rules.{Rules}
 use Rattle.market.specs.declared.Security.{Security}
 use Rattle.market.specs.declared.Ticket.{Ticket}
 use Rattle.market.specs.declared.TimeInForce.{TimeInForce}
-use Rattle.market.specs.Limits.{lentAtLeast}
+use Rattle.market.specs.Limits.{lentAtLeast, maxSecurities}
 use Rattle.market.specs.Day.{row}
 use Rattle.market.specs.View.{dayOf}
-use Rattle.market.specs.Questions.{entryQuestions, firstNo}
+use Rattle.market.specs.Waiting.{indexOf}
+use Rattle.market.specs.Questions.{closingQuestions, entryQuestions, firstNo}
 use Rattle.market.specs.Parts.{Carries, Ready, callOf}
 use Rattle.lines.specs.declared.Line.{Line}
 use Rattle.matching.specs.Orders.{waitingIn}
+use Rattle.waiting.specs.Leaving.{Leavable, Leaves}
+use Rattle.orders.specs.declared.Found.{Found}
+use Rattle.orders.specs.declared.Found.the-variants.{At, Nothing}
+use Rattle.orders.specs.Finding.{OfSecurity, foundAt}
 use Rattle.orders.specs.Entering.{Enterable, Enters, entryWith, fillableIn}
+use Rattle.orders.proofs.Cancelling.{cancel-carries, cancel-none, found-known, found-leaves}
 use Rattle.orders.proofs.Calling.{enterable, few-lots, order-enters, refuse-whole, rules-known}
+use Rattle.session.specs.Appending.{Appendable, Appends}
+use Rattle.session.proofs.Asking as closing
+use Rattle.calls.proofs.Lists.{any-list, cancel-listless, closing-listless}
 use Rattle.reserves.proofs.Moving.{movable}
 use Rattle.commands.specs.declared.Asked.{Asked}
 use Rattle.commands.specs.declared.Asked.the-variants as verdict
@@ -40,8 +49,12 @@ module _ (says : Line) (ms : List Ticket) (r : Rules) (x : Phase) (m k : List �
   abbrev asks : (m′ k′ : List ℕ) → Asked → Type 0
   asks m′ k′ a = Asks says r x (b .turnover) (b .count) (b .codes) m k m′ k′ a
 
-  pub askable : Askable r (b .codes) m k
-  askable = record { known = rules-known r x m k b ready; movable = movable r x m k b ready }
+  pub askable : Askable r (b .turnover) (b .codes) m k
+  askable = record {
+    known = rules-known r x m k b ready;
+    closing = closing.askable r x m k b ready;
+    movable = movable r x m k b ready;
+  }
 
   -- it is answered already
   pub does-answered : (m′ k′ : List ℕ) (v : Asked) (a : Answer) → asks m′ k′ v → v ≡ verdict.Answered a
@@ -83,6 +96,66 @@ module _ (says : Line) (ms : List Ticket) (r : Rules) (x : Phase) (m k : List �
           (does-call r x m k b l _ m″ k″ l″ _ ready lent
           (order-enters r x m k b ready (a .participant) (a .ticket) f l (omega (arith, lent)) none (a .entry) whole m″ k″ l″ b′
           (rw (admits .0, admits .1, a .row) at enters)))
+
+  -- it is a cancellation by a known participant
+  module _ (m′ k′ : List ℕ) (v : Asked) (p c : ℕ) (h : asks m′ k′ v) (told : v ≡ verdict.Cancels p c) where
+    cancels : asks m′ k′ (verdict.Cancels p c)
+    cancels = subst (asks m′ k′) told h
+
+    -- and the search ended with f
+    module _ {f : Found} (place : foundAt f ≡ indexOf p c (waitingIn b)) where
+      pub does-decline : f ≡ Nothing → Line-does m′ k′ l (record { answer = Refused 16 0; phase = x; book = b })
+      unfolding carried
+      does-decline nothing =
+          rw (cancels .0, cancels .1, cancels .2)
+          (does-call r x m k b l _ m k l _ ready lent
+          (any-list r x m k b l _ (cancel-listless p c) m k _
+          (cancel-none r x m k b p c ready place (cancels .3) nothing)))
+
+      module _ {i s : ℕ} (own : OfSecurity (b .orders) f) (found : f ≡ At i s) where
+        pub known-security : s < maxSecurities
+        known-security = found-known r x m k b p c ready place own found
+
+        pub can-leave : Leavable (row r s) b i m′ k′
+        can-leave = rw (cancels .0, cancels .1) (found-leaves r x m k b p c ready place own found)
+
+        pub does-cancel : (m″ k″ : List ℕ) (b′ : OrderBook) → Leaves (row r s) b i m′ k′ m″ k″ b′
+            → Line-does m″ k″ l (record { answer = Done c 0 0 0; phase = x; book = b′ })
+        unfolding carried
+        does-cancel m″ k″ b′ leaves =
+            rw (cancels .2)
+            (does-call r x m k b l _ m″ k″ l _ ready lent
+            (any-list r x m k b l _ (cancel-listless p c) m″ k″ _
+            (cancel-carries r x m k b p c ready place own found m″ k″ b′ (cancels .3)
+            (rw (cancels .0, cancels .1) at leaves))))
+
+  -- it is a closing order that passed its questions
+  module _ (m′ k′ : List ℕ) (v : Asked) (o : Order) (w : Security) (h : asks m′ k′ v) (told : v ≡ verdict.Waits o w) where
+    waits : asks m′ k′ (verdict.Waits o w)
+    waits = subst (asks m′ k′) told h
+
+    clear :
+        let a = waits .2 in
+        firstNo (closingQuestions (dayOf r x m k b) (a .participant) (a .side) (a .security) (a .lots)) ≡ 0
+    clear = sym ((waits .2 .asked) b refl refl refl)
+
+    pub can-append : Appendable w b o m′ k′
+    can-append =
+        let a = waits .2 in
+        rw (waits .0, waits .1, a .row)
+        (closing.appendable r x m k b ready (a .participant) (a .side) (a .security) (a .lots) clear (a .entry))
+
+    pub does-append : (m″ k″ : List ℕ) (b′ : OrderBook) → Appends w b o m′ k′ m″ k″ b′
+        → Line-does m″ k″ l
+        (record { answer = Done (b′ .codes) (b′ .filled) (b′ .left) (b′ .trades); phase = x; book = b′ })
+    unfolding carried
+    does-append m″ k″ b′ appends =
+        let a = waits .2 in
+        rw (a .said)
+        (does-call r x m k b l _ m″ k″ l _ ready lent
+        (any-list r x m k b l _ (closing-listless (a .participant) (a .side) (a .security) (a .lots)) m″ k″ _
+        (closing.appended r x m k b ready (a .participant) (a .side) (a .security) (a .lots) clear (a .entry) b′
+        (rw (waits .0, waits .1, a .row) at appends))))
 
   -- it is another call
   module _ (m′ k′ : List ℕ) (v : Asked) (c : code.Call) (h : asks m′ k′ v) (told : v ≡ verdict.Other c) where

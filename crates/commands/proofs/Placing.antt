@@ -1,8 +1,8 @@
 -- What a command puts into the buffer is what was to be printed next.
-use Prim.Native.Nat.{ℕ, _+_, _*_, _≤_, _<_}
+use Prim.Native.Nat.{ℕ, _+_, _*_, _-_, _≤_, _<_}
 use native.Mathlib.Omega.{arith}
 use mathlib.Core.Path.{_≡_, refl, sym, ap, _∙_}
-use mathlib.Core.List.{List, [], _++_, append-assoc}
+use mathlib.Core.List.{List, [], _∷_, _++_, append-assoc}
 use lib.ListN.{drop, length, take, length-append, length-drop, length-take}
 use Rattle.market.specs.declared.Answer.{Answer}
 use Rattle.market.specs.declared.Carried.{Carried}
@@ -17,13 +17,14 @@ use Rattle.reading.proofs.Yields.{yield-few}
 use Rattle.printing.specs.Buffer.{Puts, lineRoom}
 use Rattle.printing.specs.Lines.{answerLine, flatLines}
 use Rattle.printing.proofs.Lines.{answer-length}
-use Rattle.printing.proofs.Buffer.{puts-none, puts-then}
+use Rattle.printing.proofs.Buffer.{drop-further, puts-none, puts-then}
 use Rattle.printing.proofs.Runs.{flat-lines}
 use Rattle.commands.specs.Command.{Does, carried}
-use Rattle.commands.specs.Output.{commandLines, linesFrom}
+use Rattle.commands.specs.Output.{commandLines, withRoom, joined, outputsFrom}
 use Rattle.commands.specs.declared.Stand.{Stand}
 use Rattle.commands.specs.Stand.{Going, Onward, room, toPrint}
-use Rattle.commands.proofs.Rounds.{lines-next}
+use Rattle.commands.proofs.Rounds.{outputs-next}
+use Rattle.commands.proofs.WithRoom.{with-room-next}
 
 -- a command's trades have room in the list and in the buffer
 pub trades-fit : {out out′ : List ℕ} {at end : ℕ} (trades : List ℕ) (line : ℕ) (a : Answer) (count : ℕ)
@@ -114,7 +115,10 @@ command-next text r m k s before after lent m′ k′ list′ c o end g h enough
       };
       size = p .size;
       filled = puts-inside (omega (arith, enough)) p;
-      whole = moved before after _ _ _ (s .filled) end p next;
+      forward = let e = p .end in omega (arith, e);
+      whole = moved before after _ _ _ (s .filled) end p (ap joined next);
+      fits = moved before after _ _ _ (s .filled) end p fits;
+      past = p .past;
     }
   where
     d : Day
@@ -123,30 +127,52 @@ command-next text r m k s before after lent m′ k′ list′ c o end g h enough
     d′ : Day
     d′ = dayOf r (o .phase) m′ k′ (o .book)
 
+    bytes : List ℕ
+    bytes = answerLine (s .line) (o .answer) ++ flatLines ((numbersOf (o .answer)) .trades) list′
+
+    later : List (List ℕ)
+    later = outputsFrom d′ (s .line + c .lines) (drop (c .next) text)
+
     -- the definition's command, by what the reader yielded
-    next : linesFrom d (s .line) (drop (s .at) text)
-        ≡ (answerLine (s .line) (o .answer) ++ flatLines ((numbersOf (o .answer)) .trades) list′)
-        ++ linesFrom d′ (s .line + c .lines) (drop (c .next) text)
+    next : outputsFrom d (s .line) (drop (s .at) text) ≡ bytes ∷ later
     next =
-        lines-next d (s .line) (drop (s .at) text) (some-left text (s .at) h)
+        outputs-next d (s .line) (drop (s .at) text) (some-left text (s .at) h)
         ∙ rw (sym (reads .says), sym (reads .members), sym (reads .lines), sym (reads .rest))
-        (sym (ap (λ (l : List ℕ). l ++ linesFrom d′ (s .line + c .lines) (drop (c .next) text))
-        (lines-carried (s .line) does)
+        (sym (ap (λ (l : List ℕ). l ∷ later) (lines-carried (s .line) does)
         ∙ ap
         (λ (x : Day).
-        commandLines (s .line) (carried d (c .says) (c .members)) ++ linesFrom x (s .line + c .lines) (drop (c .next) text))
+        commandLines (s .line) (carried d (c .says) (c .members)) ∷ outputsFrom x (s .line + c .lines) (drop (c .next) text))
         (does .day)))
+
+    fits : withRoom (length before - s .filled) (outputsFrom d (s .line) (drop (s .at) text))
+        ≡ bytes ++ withRoom (length after - end) later
+    fits =
+        let left : length before - s .filled - length bytes ≡ length after - end = omega (arith, p .end, p .size) in
+        ap (withRoom (length before - s .filled)) next
+        ∙ with-room-next (length before - s .filled) bytes later (omega (arith, enough))
+        ∙ ap (λ (n : ℕ). bytes ++ withRoom n later) left
 
 pub onward-none : (text : List ℕ) (r : Rules) (m k : List ℕ) (s : Stand) (out : List ℕ) → Going text r m k s
     → s .filled ≤ length out → Onward text r m k s out m k s out
-onward-none text r m k s out g h = record { going = g; size = refl; filled = h; whole = refl }
+onward-none text r m k s out g h = record {
+  going = g;
+  size = refl;
+  filled = h;
+  forward = omega arith;
+  whole = refl;
+  fits = refl;
+  past = refl;
+}
 
 pub onward-then : {text : List ℕ} {r : Rules} {m k : List ℕ} {s : Stand} {out₀ m₁ k₁ : List ℕ} {s₁ : Stand}
     {out₁ m₂ k₂ : List ℕ} {s₂ : Stand} {out₂ : List ℕ} → Onward text r m k s out₀ m₁ k₁ s₁ out₁
     → Onward text r m₁ k₁ s₁ out₁ m₂ k₂ s₂ out₂ → Onward text r m k s out₀ m₂ k₂ s₂ out₂
-onward-then a b = record {
+onward-then {out₀ = out₀} {s₁ = s₁} {out₁ = out₁} {s₂ = s₂} a b = record {
   going = b .going;
   size = b .size ∙ a .size;
   filled = b .filled;
+  forward = omega (arith, a .forward, b .forward);
   whole = b .whole ∙ a .whole;
+  fits = b .fits ∙ a .fits;
+  past = b .past ∙ drop-further out₁ out₀ (s₁ .filled) (s₂ .filled) (b .forward) (a .past);
 }

@@ -1,7 +1,9 @@
--- What the commands of a text print.
-use Prim.Native.Nat.{ℕ, zero, suc, _+_}
+-- What the commands of a text print, and how much of it a buffer takes.
+use Prim.Native.Nat.{ℕ, zero, suc, _+_, _-_}
 use mathlib.Core.List.{List, [], _∷_, _++_}
+use mathlib.Core.Bool.{cond}
 use lib.ListN.{length}
+use Rattle.market.specs.Tests.{_≤?_}
 use Rattle.market.specs.Day.{Day}
 use Rattle.market.specs.Answers.{Result}
 use Rattle.reading.specs.Commands.{yield}
@@ -12,15 +14,29 @@ use Rattle.commands.specs.Command.{carried}
 unfoldable pub commandLines : ℕ → Result → List ℕ
 commandLines line r = answerLine line (r .answer) ++ tradeLines (r .trades)
 
--- the commands of a text one after another, on a day, from a line number on; "After all come the lines M .., then the
--- lines Q ..". Each command takes at least a byte, so that `rounds` above the text's length are enough
-unfoldable pub linesBy : ℕ → Day → ℕ → List ℕ → List ℕ
-linesBy zero d line t = []
-linesBy (suc rounds) d line [] = positionLines d
-linesBy (suc rounds) d line (x ∷ t) =
+-- the outputs of a text's commands, on a day, from a line number on, and the last one: "After all come the lines M ..,
+-- then the lines Q ..". Each command takes at least a byte, so that `rounds` above the text's length are enough
+unfoldable pub outputsBy : ℕ → Day → ℕ → List ℕ → List (List ℕ)
+outputsBy zero d line t = []
+outputsBy (suc rounds) d line [] = positionLines d ∷ []
+outputsBy (suc rounds) d line (x ∷ t) =
     let y = yield (x ∷ t) in
     let r = carried d (y .says) (y .members) in
-    commandLines line r ++ linesBy rounds (r .day) (line + y .lines) (y .rest)
+    commandLines line r ∷ outputsBy rounds (r .day) (line + y .lines) (y .rest)
 
-unfoldable pub linesFrom : Day → ℕ → List ℕ → List ℕ
-linesFrom d line t = linesBy (suc (length t)) d line t
+unfoldable pub outputsFrom : Day → ℕ → List ℕ → List (List ℕ)
+outputsFrom d line t = outputsBy (suc (length t)) d line t
+
+-- outputs one behind another
+abbrev pub joined : List (List ℕ) → List ℕ
+joined [] = []
+joined (o ∷ os) = o ++ joined os
+
+-- what an output takes of a buffer at most
+abbrev pub room : ℕ
+room = 32768
+
+-- outputs one behind another as far as each begins with that much room, in a buffer with n bytes left
+unfoldable pub withRoom : ℕ → List (List ℕ) → List ℕ
+withRoom n [] = []
+withRoom n (o ∷ os) = cond (room ≤? n) (o ++ withRoom (n - length o) os) []

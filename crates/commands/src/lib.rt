@@ -10,11 +10,14 @@ use market::OrderBook;
 use market::Phase;
 use market::Rules;
 use market::Security;
+use market::Side;
 use market::Ticket;
 use market::TimeInForce;
 use market::Turnover;
+use orders::Found;
 use orders::enter;
 use orders::entry_of;
+use orders::find;
 use orders::is_fillable;
 use orders::order_no;
 use printing::put_answer;
@@ -22,6 +25,10 @@ use printing::put_trades;
 use reading::command_at;
 use reserves::answer_of;
 use reserves::moved;
+use session::append;
+use session::closing_no;
+use session::closing_order;
+use waiting::leave;
 ghost use mathlib.Core.Path.{_≡_};
 ghost use mathlib.Core.List.{_++_};
 ghost use Prim.Native.Nat.{_+_, _≤_};
@@ -31,13 +38,18 @@ ghost use Rattle.market.specs.Answers.{numbersOf};
 ghost use Rattle.lines.specs.declared.Line.the-variants as line;
 ghost use Rattle.market.specs.declared.Call.the-variants as call;
 ghost use Rattle.orders.specs.Entering.{Known};
+ghost use Rattle.session.specs.Appending.{Askable as ClosingAskable};
 ghost use Rattle.printing.specs.Buffer.{Puts};
 ghost use Rattle.printing.specs.Lines.{answerLine, flatLines};
 ghost use Rattle.commands.specs.Stand.{Going, Runs, goesOn, room};
 ghost use Rattle.commands.specs.Asked.{Askable, Asks};
 
-// Question 15.
+// Questions 4, 15 and 16.
+const UNKNOWN: u64 = 4;
+
 const UNFILLABLE: u64 = 15;
+
+const NOT_WAITING: u64 = 16;
 
 // What a command, or the last positions, take of the buffer at most.
 pub const ROOM: usize = 32768;
@@ -54,16 +66,21 @@ pub struct Stand {
 
 // What comes of a line where no waiting order has to be read.
 pub enum Asked {
-    // Answered: a malformed line or one out of its place, a move of reserves, an order refused by questions 4 to 14.
+    // Answered: a malformed line or one out of its place, a move of reserves, an order or a closing order refused by
+    // questions 4 to 14, a cancellation refused by question 4.
     Answered(Answer),
     // An order whose questions 4 to 14 are answered "yes", with the row of its security.
     Enters(Order, Security, TimeInForce),
+    // A cancellation by a known participant, and the code.
+    Cancels(u64, u64),
+    // A closing order whose questions are all answered "yes", with the row of its security.
+    Waits(Order, Security),
     // Any other call.
     Other(Call),
 }
 
 // A command's answer and its trades, from place `at` of the buffer on.
-fn put_command(out: &mut [u8], at: usize, line: u64, answer: Answer, trades: &[u64]) -> usize
+pub fn put_command(out: &mut [u8], at: usize, line: u64, answer: Answer, trades: &[u64]) -> usize
     requires { ⌜ at + room ≤ length (now out) ⌝ }
     requires { ⌜ length (now trades) ≡ lentAtLeast ⌝ }
     requires { ⌜ (numbersOf answer) .trades ≤ maxTrades ⌝ }
@@ -113,6 +130,45 @@ fn order_asked<'a>(
     Asked::Enters(entry, row, force)
 }
 
+// A closing order's questions.
+fn closing_asked<'a>(
+    rules: Rules,
+    phase: Phase,
+    turnovers: [Turnover; 16],
+    count: usize,
+    codes: u64,
+    money: &'a [u64; 512],
+    pieces: &'a [u64; 512],
+    participant: u64,
+    side: Side,
+    security: u64,
+    lots: u64,
+) -> Asked
+    requires { ⌜ ClosingAskable rules turnovers codes ⌝ }
+    ensures { λ r. ⌜ Asks (line.Call (call.ClosingOrder participant side security lots)) rules phase turnovers count codes (now (money .entry)) (now (pieces .entry)) (now (money .entry)) (now (pieces .entry)) r ⌝ }
+{
+    let number = closing_no(
+        rules,
+        phase,
+        turnovers,
+        count,
+        codes,
+        money,
+        pieces,
+        participant,
+        side,
+        security,
+        lots,
+    );
+    if 0 < number {
+        return Asked::Answered(Answer::Refused(number, 0));
+    }
+    let table = rules.table;
+    let row = table[security as usize];
+    let o = closing_order(codes, participant, side, security, lots);
+    Asked::Waits(o, row)
+}
+
 fn without_orders(
     says: Line,
     rules: Rules,
@@ -123,7 +179,7 @@ fn without_orders(
     money: &mut [u64; 512],
     pieces: &mut [u64; 512],
 ) -> Asked
-    requires { ⌜ Askable rules codes (now money) (now pieces) ⌝ }
+    requires { ⌜ Askable rules turnovers codes (now money) (now pieces) ⌝ }
     ensures { λ r. ⌜ Asks says rules phase turnovers count codes (now (money .entry)) (now (pieces .entry)) (now (money .exit)) (now (pieces .exit)) r ⌝ }
 {
     let Line::Call(call) = says else {
@@ -146,11 +202,32 @@ fn without_orders(
             force,
         );
     }
+    if let Call::Cancel(participant, code) = call {
+        if rules.participants <= participant {
+            return Asked::Answered(Answer::Refused(UNKNOWN, 0));
+        }
+        return Asked::Cancels(participant, code);
+    }
+    if let Call::ClosingOrder(participant, side, security, lots) = call {
+        return closing_asked(
+            rules,
+            phase,
+            turnovers,
+            count,
+            codes,
+            &*money,
+            &*pieces,
+            participant,
+            side,
+            security,
+            lots,
+        );
+    }
     Asked::Other(call)
 }
 
 // Are there a command and room for it?
-fn goes_on(length: usize, at: usize, size: usize, filled: usize) -> bool
+pub fn goes_on(length: usize, at: usize, size: usize, filled: usize) -> bool
     requires { ⌜ room ≤ size ⌝ }
     ensures { λ r. ⌜ r ≡ goesOn length at size filled ⌝ }
 {
@@ -160,9 +237,9 @@ fn goes_on(length: usize, at: usize, size: usize, filled: usize) -> bool
     filled <= size - ROOM
 }
 
-// The commands of a text one after another, as long as the buffer has room. An order, the commonest call, is entered
-// here: through `carry_out` the waiting orders would be copied twice as often, and for a refusal too. So this function
-// is longer than others.
+// The commands of a text one after another, as long as the buffer has room. The commonest calls (orders, cancellations,
+// closing orders) are carried out here: through `carry_out` the waiting orders would be copied twice as often, and for a
+// refusal too. So this function is longer than others.
 pub fn commands(
     text: &[u8],
     from: Stand,
@@ -176,6 +253,7 @@ pub fn commands(
     ensures { λ r. ⌜ Runs (now (text .entry)) rules (now (money .entry)) (now (pieces .entry)) from (now (out .entry)) (now (money .exit)) (now (pieces .exit)) r (now (out .exit)) ⌝ }
 {
     let mut trades = [0u64; 1088];
+    let table = rules.table;
     let mut book = from.book;
     let mut phase = from.phase;
     let mut at = from.at;
@@ -205,6 +283,19 @@ pub fn commands(
                     book = enter(book, entry, force, row, money, pieces, &mut trades);
                     answer = Answer::Done(book.codes, book.filled, book.left, book.trades);
                 }
+            }
+            Asked::Cancels(participant, code) => {
+                answer = Answer::Refused(NOT_WAITING, 0);
+                let found = find(book, participant, code);
+                if let Found::At(index, security) = found {
+                    let row = table[security as usize];
+                    book = leave(book, index, row, money, pieces);
+                    answer = Answer::Done(code, 0, 0, 0);
+                }
+            }
+            Asked::Waits(o, row) => {
+                book = append(book, o, row, money, pieces);
+                answer = Answer::Done(book.codes, book.filled, book.left, book.trades);
             }
             Asked::Other(call) => {
                 let members = reading.members;

@@ -9,7 +9,7 @@ use Rattle.market.specs.declared.Order.{Order}
 use Rattle.market.specs.declared.Side.{Side}
 use Rattle.market.specs.declared.Side.the-variants.{Buy, Sell}
 use Rattle.market.specs.declared.Rules.{Rules}
-use Rattle.market.specs.Day.{Asset, Day, Money, Pieces, Position, columnsOf, place, position, positions}
+use Rattle.market.specs.Day.{Asset, Day, Money, Pieces, Position, columnsOf, cell, position, positions}
 use Rattle.market.specs.Day.{withPositions, withWaiting}
 use Rattle.market.specs.Needs.{assetOf, columnOf, need, needAt}
 use Rattle.market.specs.Positions.{block, blockFor, change, freeFor, release, releaseFor, total}
@@ -29,7 +29,7 @@ module _ (v : List Waiting) (b : Book) (d : Day) (o : Order) (hp : o .participan
 
   -- the position where it blocks becomes f of it, and its total stays
   same-balance : {r : Rules} (f : Position → Position) (z : Side) →
-      let at : ℕ = place (o .participant) (columnOf z (d .rules) (o .security)) in
+      let at : ℕ = cell (o .participant) (columnOf z (d .rules) (o .security)) in
       let l : List ℕ = positions (assetOf z) d in
       total (f (position l at)) ≡ total (position l at) → Agree r b d → (y : Asset)
       → Balanced (d .rules) (columnsOf y (d .rules)) (positions y (withPositions (assetOf z) d (change l at f))) (balances y b)

@@ -9,11 +9,11 @@ use Rattle.market.specs.declared.Answer.{Answer}
 use Rattle.market.specs.declared.Order.{Order}
 use Rattle.market.specs.declared.Phase.the-variants.{Open}
 use Rattle.market.specs.declared.State.{State}
-use Rattle.market.specs.Limits.{columns, maxSecurities, places, positionNumbers}
+use Rattle.market.specs.Limits.{columns, maxSecurities, cells, positionNumbers}
 use Rattle.market.specs.Tests.{sumOf}
 use Rattle.market.specs.declared.Rules.{Rules}
 use Rattle.market.specs.Day.{Asset, Day, Money, Pieces, blockedAt, columnsOf, freeAt, noOrder, noTurnover, orderAt}
-use Rattle.market.specs.Day.{place, positions, totalLimit}
+use Rattle.market.specs.Day.{cell, positions, totalLimit}
 use Rattle.market.specs.View.{view}
 use Rattle.market.specs.Needs.{needAt}
 use Rattle.market.specs.Positions.{total}
@@ -72,7 +72,7 @@ opened-good r ok = record {
       wide = wide;
       rows = ok .participants;
       positions = refl;
-      blocked = λ p c hp hc. same-all positionNumbers (blockedAt (place p c)) 0;
+      blocked = λ p c hp hc. same-all positionNumbers (blockedAt (cell p c)) 0;
       topped = λ c hc. omega (arith, zero-total positionNumbers (r .participants) c);
     }
 
@@ -80,13 +80,13 @@ opened-good r ok = record {
     held Money = zeros (r .currencies) _ (omega (arith, ok .currencies))
     held Pieces = zeros (r .securities) _ (ok .securities)
 
-    even : (n : ℕ) → Balanced r n (replicate positionNumbers 0) (replicate places noBalance)
+    even : (n : ℕ) → Balanced r n (replicate positionNumbers 0) (replicate cells noBalance)
     even n = record {
       balances = refl;
       agree = λ p c hp hc.
-          let free = same-all {A = ℕ} positionNumbers (freeAt (place p c)) 0 in
-          let blocked = same-all {A = ℕ} positionNumbers (blockedAt (place p c)) 0 in
-          rw (same-all places (place p c) noBalance) (omega arith);
+          let free = same-all {A = ℕ} positionNumbers (freeAt (cell p c)) 0 in
+          let blocked = same-all {A = ℕ} positionNumbers (blockedAt (cell p c)) 0 in
+          rw (same-all cells (cell p c) noBalance) (omega arith);
     }
 
     balanced : (x : Asset) → Balanced r (columnsOf x r) (positions x (opened r)) (balances x emptyBook)
@@ -105,7 +105,7 @@ agrees : {r : Rules} (b : Book) (d : Day) → Good (Unit {0}) r b d → Agrees r
 agrees {r} b d g = record {
   rules = sym rules;
   balanced = λ x p c hp hc. (g .agree .balanced x) .agree p c (rw (← rules) hp) (known x c hc);
-  blocked = λ x p c hp hc. (g .standing .backed .held x) .blocked p c (rw (← rules) hp) (known x c hc) ∙ sym (needs x (place p c));
+  blocked = λ x p c hp hc. (g .standing .backed .held x) .blocked p c (rw (← rules) hp) (known x c hc) ∙ sym (needs x (cell p c));
   waiting = sym (g .waiting);
   turnover = sym (g .agree .turnover);
   phase = sym (g .agree .phase);

@@ -12,7 +12,7 @@ use Rattle.market.specs.declared.Rules.{Rules}
 use Rattle.market.specs.Day.{Day, noOrder, orderAt, withPhase}
 use Rattle.market.specs.Needs.{needAt}
 use Rattle.market.specs.Positions.{releaseFor}
-use Rattle.market.specs.Waiting.{Place, allLeave, isSomewhere, leave, leaveFirst, nowhere, placeIn, placeOf}
+use Rattle.market.specs.Waiting.{Index, allLeave, isSomewhere, leave, leaveFirst, nowhere, indexIn, indexOf}
 use Rattle.market.specs.Waiting.{somewhere}
 use Rattle.market.proofs.Logic.{never}
 use Rattle.market.proofs.Lists.{all-at, length-remove, sum-remove}
@@ -21,7 +21,7 @@ use Rattle.market.proofs.Matching.{Uncrossed, uncrossed-remove}
 use Rattle.invariant.proofs.Leaves.{leave-standing, phase-standing}
 use Rattle.conservation.specs.Book.{Book, Waiting, allGone, dropOrder, withOrders}
 use Rattle.conservation.specs.Statement.{allShown}
-use Rattle.conservation.proofs.Listed.{Located, place-located}
+use Rattle.conservation.proofs.Listed.{Located, index-located}
 use Rattle.conservation.proofs.Good.{Good, relisted}
 use Rattle.conservation.proofs.Blocks.{release-agree}
 
@@ -42,12 +42,12 @@ leave-good b d i v g h e =
     }
 
 pub cancel-good : {U : Type 0} {r : Rules} (b : Book) (d : Day) (p c : ℕ) → Good U r b d
-    → isSomewhere (placeOf p c (d .waiting)) ≡ true
-    → Good U r (withOrders b (dropOrder p c (b .waiting))) (leave d (placeIn (placeOf p c (d .waiting))))
-cancel-good {U} {r} b d p c g e = go (placeOf p c (d .waiting)) (place-located p c (d .waiting)) e
+    → isSomewhere (indexOf p c (d .waiting)) ≡ true
+    → Good U r (withOrders b (dropOrder p c (b .waiting))) (leave d (indexIn (indexOf p c (d .waiting))))
+cancel-good {U} {r} b d p c g e = go (indexOf p c (d .waiting)) (index-located p c (d .waiting)) e
   where
-    go : (f : Place) → Located p c (d .waiting) f → isSomewhere f ≡ true
-        → Good U r (withOrders b (dropOrder p c (b .waiting))) (leave d (placeIn f))
+    go : (f : Index) → Located p c (d .waiting) f → isSomewhere f ≡ true
+        → Good U r (withOrders b (dropOrder p c (b .waiting))) (leave d (indexIn f))
     go nowhere l h = never h
     go (somewhere i) l h =
         leave-good b d i (dropOrder p c (b .waiting)) g (l .0) (ap (dropOrder p c) (g .waiting) ∙ l .1)

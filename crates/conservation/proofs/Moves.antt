@@ -7,7 +7,7 @@ use mathlib.Core.Bool.{true}
 use borrow.Author.Tests.{leb-true}
 use Rattle.market.specs.Day.{Position}
 use Rattle.market.specs.declared.Rules.{Rules}
-use Rattle.market.specs.Day.{Asset, Day, Money, Pieces, columnsOf, place, position, positions, totalLimit}
+use Rattle.market.specs.Day.{Asset, Day, Money, Pieces, columnsOf, cell, position, positions, totalLimit}
 use Rattle.market.specs.Day.{withPositions}
 use Rattle.market.specs.Positions.{change, draw, receive, totalAt}
 use Rattle.market.specs.Questions.{isFree, totalFits}
@@ -19,11 +19,11 @@ use Rattle.invariant.proofs.Backed.{standing-moved}
 use Rattle.conservation.proofs.Balanced.{Balanced, balanced-move}
 use Rattle.conservation.proofs.Good.{Good}
 
--- at a known place
+-- in a known cell
 module _ {U : Type 0} {r : Rules} (x : Asset) (b : Book) (d : Day) (p column a : ℕ) (g : Good U r b d)
     (hp : p < d .rules .participants) (hc : column < columnsOf x (d .rules)) where
   abbrev at : ℕ
-  at = place p column
+  at = cell p column
 
   -- the positions of one asset and their balances are others that agree
   moved-good : (f : Position → Position) (l : List Balance) →

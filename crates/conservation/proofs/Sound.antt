@@ -5,9 +5,9 @@ use mathlib.Core.Path.{_≡_, refl, ap, subst}
 use mathlib.Core.List.{List, [], _∷_}
 use mathlib.Core.Bool.{true}
 use lib.ListN.{length}
-use Rattle.market.specs.Limits.{columns, places}
+use Rattle.market.specs.Limits.{columns, cells}
 use Rattle.market.specs.declared.Rules.{Rules}
-use Rattle.market.specs.Day.{Asset, Day, Money, Pieces, columnsOf, place, position, positions}
+use Rattle.market.specs.Day.{Asset, Day, Money, Pieces, columnsOf, cell, position, positions}
 use Rattle.market.specs.View.{Sized}
 use Rattle.market.specs.Positions.{total}
 use Rattle.market.specs.Sound.{sound}
@@ -29,8 +29,8 @@ totals (suc n) j l = record { into = total (position l j); out = 0 } ∷ totals 
 
 abbrev pub bookOf : Day → Book
 bookOf d = record {
-  money = totals places 0 (d .money);
-  pieces = totals places 0 (d .pieces);
+  money = totals cells 0 (d .money);
+  pieces = totals cells 0 (d .pieces);
   turnover = d .turnover;
   phase = d .phase;
   waiting = allShown (d .waiting);
@@ -50,11 +50,11 @@ unfolding totals
 totals-length zero j l = refl
 totals-length (suc n) j l = ap suc (totals-length n (suc j) l)
 
-totals-balanced : (r : Rules) (n : ℕ) (m : List ℕ) → RulesOk r → n ≤ columns → Balanced r n m (totals places 0 m)
+totals-balanced : (r : Rules) (n : ℕ) (m : List ℕ) → RulesOk r → n ≤ columns → Balanced r n m (totals cells 0 m)
 totals-balanced r n m ok wide = record {
-  balances = totals-length places 0 m;
+  balances = totals-length cells 0 m;
   agree = λ p c hp hc.
-      totals-at places 0 (place p c) (place p c) m (omega arith) (omega (arith, ok .participants));
+      totals-at cells 0 (cell p c) (cell p c) m (omega arith) (omega (arith, ok .participants));
 }
 
 -- a sound day is good against a book of its own

@@ -7,9 +7,9 @@ use Rattle.market.specs.declared.Order.{Order}
 use Rattle.market.specs.declared.Side.the-variants.{Buy, Sell}
 use Rattle.market.specs.declared.Turnover.{Turnover}
 use Rattle.market.specs.declared.Rules.{Rules}
-use Rattle.market.specs.Day.{Asset, Day, Money, Pieces, columnsOf, currencyOf, row, place, position, positions}
+use Rattle.market.specs.Day.{Asset, Day, Money, Pieces, columnsOf, currencyOf, row, cell, position, positions}
 use Rattle.market.specs.Day.{withTurnover, withWaiting}
-use Rattle.market.specs.Needs.{limitOf, only, piecesOf, placeFor, sumFor}
+use Rattle.market.specs.Needs.{limitOf, only, piecesOf, cellFor, sumFor}
 use Rattle.market.specs.Positions.{change, fall, pay, receive, settle}
 use Rattle.market.specs.TradeList.{tradeOf}
 use Rattle.market.proofs.Amounts.{only-same}
@@ -35,12 +35,12 @@ module _ {r : Rules} (x w′ : List Order) (b : Book) (d : Day) (buy sell : Orde
   -- the payer's blocked part falls by falls, of which the other gets cost, in one column
   paid : (y : Asset) (payer other column falls cost : ℕ) → payer < d .rules .participants
       → other < d .rules .participants → column < columnsOf y (d .rules) → cost ≤ falls
-      → only (place payer column) (place payer column) falls ≤ needsOf y d (x ++ d .waiting) (place payer column)
+      → only (cell payer column) (cell payer column) falls ≤ needsOf y d (x ++ d .waiting) (cell payer column)
       → Balanced (d .rules) (columnsOf y (d .rules))
-      (change (change (positions y d) (place payer column) (pay falls cost)) (place other column) (receive cost))
-      (add (sub (balances y b) (place payer column) cost) (place other column) cost)
+      (change (change (positions y d) (cell payer column) (pay falls cost)) (cell other column) (receive cost))
+      (add (sub (balances y b) (cell payer column) cost) (cell other column) cost)
   paid y payer other column falls cost hp ho hc pays left =
-      let at = place payer column in
+      let at = cell payer column in
       let has : falls ≤ (position (positions y d) at) .blocked =
       omega (arith, left, only-same at falls, (backed .held y) .blocked payer column hp hc) in
       balanced-transfer (backed .held y) (agree .balanced y) payer other column (pay falls cost) cost hp ho hc (omega arith)
@@ -52,8 +52,8 @@ module _ {r : Rules} (x w′ : List Order) (b : Book) (d : Day) (buy sell : Orde
   trade-balanced Money =
       let column = currencyOf (d .rules) (buy .security) in
       let falls = fall (d .rules) (d .turnover) buy n in
-      let there : placeFor (d .rules) buy ≡ place (buy .participant) column = rw buys in
-      let at = place (buy .participant) column in
+      let there : cellFor (d .rules) buy ≡ cell (buy .participant) column = rw buys in
+      let at = cell (buy .participant) column in
       rw (agree .rules, there)
       (paid Money (buy .participant) (sell .participant) column falls (sumFor (row (d .rules) (buy .security)) p n)
       (buyOk .participant) (sellOk .participant) (backed .rulesOk .currency (buy .security) (buyOk .security))
@@ -62,8 +62,8 @@ module _ {r : Rules} (x w′ : List Order) (b : Book) (d : Day) (buy sell : Orde
   trade-balanced Pieces =
       let column = buy .security in
       let falls = fall (d .rules) (d .turnover) sell n in
-      let there : placeFor (d .rules) sell ≡ place (sell .participant) column = rw (sells, one) in
-      let at = place (sell .participant) column in
+      let there : cellFor (d .rules) sell ≡ cell (sell .participant) column = rw (sells, one) in
+      let at = cell (sell .participant) column in
       let sold : falls ≡ piecesOf (row (d .rules) column) n =
       fall-sells (d .rules) (d .turnover) sell n sells sellLots
       ∙ ap (λ (k : ℕ). piecesOf (row (d .rules) k) n) one in

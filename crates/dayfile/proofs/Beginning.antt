@@ -1,69 +1,105 @@
--- The beginning of a run: what stands in the buffer and what is left make up what is to be printed.
-use Prim.Native.Nat.{ℕ, _≤_, _<_}
+-- The beginning of a run: the first output stands in the buffer, the others are left.
+use Prim.Native.Nat.{ℕ, _-_, _≤_, _<_}
 use native.Mathlib.Omega.{arith}
-use mathlib.Core.Path.{_≡_, ap, sym, _∙_}
-use mathlib.Core.List.{List, append-nil}
+use mathlib.Core.Path.{_≡_, refl, ap, sym, subst, _∙_}
+use mathlib.Core.List.{List, [], _∷_, _++_}
 use mathlib.Core.Bool.{Bool, true, false, not}
-use lib.ListN.{length}
+use lib.ListN.{length, take}
 use borrow.Author.Tests.{le-ltb, lt-ltb}
+use Rattle.market.specs.declared.Answer.the-variants.{Refused}
 use Rattle.market.specs.Answers.{isDone}
 use Rattle.market.proofs.Logic.{never}
 use Rattle.printing.specs.Buffer.{Puts}
 use Rattle.printing.specs.Lines.{answerLine}
 use Rattle.heading.specs.declared.Headed.{Headed}
 use Rattle.heading.specs.Heading.{ReadsHeading, heading, maxText}
+use Rattle.commands.specs.Output.{withRoom, joined}
+use Rattle.commands.proofs.WithRoom.{with-room-end, with-room-next, with-room-none}
 use Rattle.dayfile.specs.declared.Run.{Run}
-use Rattle.dayfile.specs.Output.{afterHeading, printed}
-use Rattle.dayfile.specs.Run.{Begins, TooLong, left}
-use Rattle.dayfile.proofs.Resuming.{puts-inside}
+use Rattle.dayfile.specs.Output.{afterHeading, outputs, tooLong}
+use Rattle.dayfile.specs.Run.{Begins, Going, TooLong, left, room}
+use Rattle.dayfile.proofs.Resuming.{none-left, puts-inside}
 
-pub begins-long : {text before after : List ℕ} {r : Run} → maxText < length text → TooLong before r after
+-- the first output was put
+begins-first : {text before after bytes : List ℕ} {r : Run} → room ≤ length before
+    → Puts before 0 bytes after (r .filled) → outputs text ≡ bytes ∷ left text r → (r .over ≡ false → Going text r)
     → Begins text before r after
-unfolding left printed
-begins-long {text} long t = record {
-  going = λ goes. never (sym goes ∙ t .over);
-  size = t .puts .size;
-  filled = puts-inside (omega arith) (t .puts);
-  whole = rw (t .over, t .puts .text, lt-ltb maxText (length text) long) (append-nil _);
+begins-first {text} {before} {after} {bytes} {r} enough p e going = record {
+  going = going;
+  small = λ h. absurd (omega (arith, h, enough));
+  size = p .size;
+  filled = puts-inside (omega arith) p;
+  whole = λ _. ap (λ (l : List ℕ). l ++ joined (left text r)) (p .text) ∙ sym (ap joined e);
+  fits =
+      let rest : length before - length bytes ≡ length after - r .filled = omega (arith, p .end, p .size) in
+      ap (λ (l : List ℕ). l ++ withRoom (length after - r .filled) (left text r)) (p .text)
+      ∙ sym (ap (withRoom (length before)) e
+      ∙ with-room-next (length before) bytes (left text r) enough
+      ∙ ap (λ (n : ℕ). bytes ++ withRoom n (left text r)) rest);
+  past = p .past;
 }
 
-module _ {text before after : List ℕ} {h : Headed} {n : ℕ} (short : length text ≤ maxText)
+-- the buffer has no room for an output
+pub begins-small : {text before : List ℕ} {r : Run} → length before < room → r .over ≡ true → r .filled ≡ 0
+    → Begins text before r before
+begins-small {text} {before} {r} less over none = record {
+  going = λ goes. never (sym goes ∙ over);
+  small = λ _. over;
+  size = refl;
+  filled = omega (arith, none);
+  whole = λ enough. absurd (omega (arith, less, enough));
+  fits =
+      ap (λ (n : ℕ). take n before ++ withRoom (length before - r .filled) (left text r)) none
+      ∙ ap (withRoom (length before - r .filled)) (none-left text r over)
+      ∙ with-room-end (length before - r .filled)
+      ∙ sym (with-room-none (length before) (outputs text) less);
+  past = refl;
+}
+
+pub ends-long : {before after : List ℕ} {n : ℕ} {r : Run} → r .over ≡ true → r .filled ≡ n
+    → Puts before 0 (answerLine 0 (Refused tooLong 0)) after n → TooLong before r after
+ends-long {before} {after} over e p = record {
+  over = over;
+  puts = subst (λ (i : ℕ). Puts before 0 (answerLine 0 (Refused tooLong 0)) after i) (sym e) p;
+}
+
+pub begins-long : {text before after : List ℕ} {r : Run} → room ≤ length before → maxText < length text
+    → TooLong before r after → Begins text before r after
+unfolding outputs
+begins-long {text} {r = r} enough long t =
+    begins-first enough (t .puts)
+    (rw (lt-ltb maxText (length text) long)
+    (ap (λ (os : List (List ℕ)). answerLine 0 (Refused tooLong 0) ∷ os) (sym (none-left text r (t .over)))))
+    (λ goes. never (sym goes ∙ t .over))
+
+module _ {text before after : List ℕ} {h : Headed} {n : ℕ} (enough : room ≤ length before) (short : length text ≤ maxText)
     (reads : ReadsHeading text h) (puts : Puts before 0 (answerLine (h .line) (h .outcome .answer)) after n) where
-  printed-short : printed text ≡ afterHeading (heading text)
-  unfolding printed
-  printed-short = rw (le-ltb maxText (length text) short)
+  outputs-short : outputs text ≡ afterHeading (heading text)
+  unfolding outputs
+  outputs-short = rw (le-ltb maxText (length text) short)
 
   pub begins-headed : (done : Bool) → done ≡ isDone (h .outcome .answer)
       → Begins text before
       (record { state = h .outcome .state; at = h .at; line = h .next; filled = n; over = not done }) after
   unfolding left
-  begins-headed true e = record {
-    going = λ goes. record {
-      sound = reads .sound (sym e);
-      inside = reads .inside (sym e);
-      short = short;
-      line = omega (arith, reads .few (sym e));
-    };
-    size = puts .size;
-    filled = puts-inside (omega arith) puts;
-    whole =
-        let accepts : isDone ((heading text) .answer) ≡ true = ap isDone (sym (reads .answer)) ∙ sym e in
-        rw (
-          puts .text,
-          printed-short,
-          accepts,
-          reads .line,
-          reads .answer,
-          reads .day,
-          reads .next (sym e),
-          reads .rest (sym e),
-        );
-  }
-  begins-headed false e = record {
-    going = λ goes. never (sym goes);
-    size = puts .size;
-    filled = puts-inside (omega arith) puts;
-    whole =
-        let refuses : isDone ((heading text) .answer) ≡ false = ap isDone (sym (reads .answer)) ∙ sym e in
-        rw (puts .text, printed-short, refuses, reads .line, reads .answer);
-  }
+  begins-headed true e =
+      let accepts : isDone ((heading text) .answer) ≡ true = ap isDone (sym (reads .answer)) ∙ sym e in
+      begins-first enough puts
+      (rw (
+        outputs-short,
+        accepts,
+        reads .line,
+        reads .answer,
+        reads .day,
+        reads .next (sym e),
+        reads .rest (sym e),
+      ))
+      (λ goes. record {
+        sound = reads .sound (sym e);
+        inside = reads .inside (sym e);
+        short = short;
+        line = omega (arith, reads .few (sym e));
+      })
+  begins-headed false e =
+      let refuses : isDone ((heading text) .answer) ≡ false = ap isDone (sym (reads .answer)) ∙ sym e in
+      begins-first enough puts (rw (outputs-short, refuses, reads .line, reads .answer)) (λ goes. never (sym goes))

@@ -1,8 +1,8 @@
 -- A run after the commands that the buffer had room for: as it stands, or after the positions.
-use Prim.Native.Nat.{ℕ, _+_, _≤_, _<_}
+use Prim.Native.Nat.{ℕ, _+_, _-_, _≤_, _<_}
 use native.Mathlib.Omega.{arith}
 use mathlib.Core.Path.{_≡_, refl, sym, ap, _∙_}
-use mathlib.Core.List.{List, _++_, append-nil}
+use mathlib.Core.List.{List, [], _∷_, _++_, append-nil}
 use mathlib.Core.Bool.{Bool, true, false}
 use lib.ListN.{drop, length, take, length-append, length-take, drop-of-length-le}
 use borrow.Author.Tests.{le-leb, ltb-false}
@@ -19,11 +19,13 @@ use Rattle.market.proofs.Logic.{and-true, both, never}
 use Rattle.market.proofs.Known.{rules-ok}
 use Rattle.printing.specs.Buffer.{Puts}
 use Rattle.printing.specs.Lines.{positionLines}
+use Rattle.printing.proofs.Buffer.{drop-further}
 use Rattle.commands.specs.declared.Stand.{Stand}
-use Rattle.commands.specs.Output.{linesFrom}
+use Rattle.commands.specs.Output.{withRoom, joined, outputsFrom}
 use Rattle.commands.specs.Stand as stand
 use Rattle.commands.specs.Stand.{Runs, goesOn, room, toPrint}
-use Rattle.commands.proofs.Rounds.{lines-end}
+use Rattle.commands.proofs.Rounds.{outputs-end}
+use Rattle.commands.proofs.WithRoom.{with-room-end, with-room-next}
 use Rattle.dayfile.specs.declared.Run.{Run}
 use Rattle.dayfile.specs.Run as run
 use Rattle.dayfile.specs.Run.{Fills, ahead, left, toGo}
@@ -75,6 +77,11 @@ puts-inside {before} {bytes} {after} {at} {end} h p =
       p .end,
     )
 
+-- a run that is over leaves nothing
+pub none-left : (text : List ℕ) (r : Run) → r .over ≡ true → left text r ≡ []
+unfolding left
+none-left text r e = rw e
+
 -- the commands of a run begin where it stands
 pub starts : {text : List ℕ} {r : Run} {x : Rules} {b : OrderBook} → x ≡ rulesOf (r .state) → b ≡ bookOf (r .state)
     → Sized (view (r .state)) → run.Going text r
@@ -115,7 +122,10 @@ module _ {text before after m k : List ℕ} {x : Rules} {b : OrderBook} {last : 
           };
           size = size;
           filled = filled;
+          forward = o .forward;
           whole = rw still whole;
+          fits = rw still fits;
+          past = o .past;
           less =
               rw still
               (omega (
@@ -127,11 +137,17 @@ module _ {text before after m k : List ℕ} {x : Rules} {b : OrderBook} {last : 
         full = λ _. full;
       }
     where
-      whole : take (last .filled) after ++ linesFrom (view z) (last .line) (drop (last .at) text)
-          ≡ take (from .filled) before ++ ahead text from
-      whole =
-          ap (λ (d : Day). take (last .filled) after ++ linesFrom d (last .line) (drop (last .at) text)) e
-          ∙ h .onward .whole
+      later : Day → List (List ℕ)
+      later d = outputsFrom d (last .line) (drop (last .at) text)
+
+      whole : take (last .filled) after ++ joined (later (view z)) ≡ take (from .filled) before ++ joined (ahead text from)
+      whole = ap (λ (d : Day). take (last .filled) after ++ joined (later d)) e ∙ h .onward .whole
+
+      fits : take (last .filled) after ++ withRoom (length after - last .filled) (later (view z))
+          ≡ take (from .filled) before ++ withRoom (length before - from .filled) (ahead text from)
+      fits =
+          ap (λ (d : Day). take (last .filled) after ++ withRoom (length after - last .filled) (later d)) e
+          ∙ h .onward .fits
 
   -- it has room, so that no command is left: the positions, and the run is over
   pub fills-over : {out : List ℕ} {end : ℕ} → last .filled + room ≤ length after
@@ -139,25 +155,42 @@ module _ {text before after m k : List ℕ} {x : Rules} {b : OrderBook} {last : 
       → Fills text from before
       (record { state = z; at = last .at; line = last .line; filled = end; over = true }) out
   unfolding left toGo
-  fills-over {out} {end} fits p = record {
+  fills-over {out} {end} enough p = record {
     continues = record {
       going = λ over. never (sym over);
       size = p .size ∙ h .onward .size;
-      filled = puts-inside (omega (arith, fits)) p;
-      whole =
+      filled = puts-inside (omega (arith, enough)) p;
+      forward = omega (arith, h .onward .forward, p .end);
+      whole = rw still (append-nil (take end out) ∙ p .text ∙ ap (λ (l : List ℕ). take (last .filled) after ++ l) all ∙ h .onward .whole);
+      fits =
           rw still
-          (append-nil (take end out) ∙ p .text
-          ∙ ap (λ (l : List ℕ). take (last .filled) after ++ l) (sym positions)
-          ∙ h .onward .whole);
+          (ap (λ (l : List ℕ). take end out ++ l) (with-room-end (length out - end))
+          ∙ append-nil (take end out) ∙ p .text
+          ∙ ap (λ (l : List ℕ). take (last .filled) after ++ l) fits
+          ∙ h .onward .fits);
+      past = p .past ∙ drop-further after before (last .filled) end (omega (arith, p .end)) (h .onward .past);
       less = rw still (omega arith);
     };
     full = λ over. never (sym over);
   }
     where
       positions : toPrint text (rulesOf (from .state)) m k last
-          ≡ positionLines (dayOf (rulesOf (from .state)) (last .phase) m k (last .book))
+          ≡ positionLines (dayOf (rulesOf (from .state)) (last .phase) m k (last .book)) ∷ []
       positions =
-          ap (linesFrom _ (last .line))
+          ap (outputsFrom _ (last .line))
           (drop-of-length-le text {i = last .at}
-          (at-end (length text) (last .at) (length after) (last .filled) (h .stops) fits))
-          ∙ lines-end _ (last .line)
+          (at-end (length text) (last .at) (length after) (last .filled) (h .stops) enough))
+          ∙ outputs-end _ (last .line)
+
+      lines : List ℕ
+      lines = positionLines (dayOf (rulesOf (from .state)) (last .phase) m k (last .book))
+
+      all : lines ≡ joined (toPrint text (rulesOf (from .state)) m k last)
+      all = sym (ap joined positions ∙ append-nil lines)
+
+      fits : lines ≡ withRoom (length after - last .filled) (toPrint text (rulesOf (from .state)) m k last)
+      fits =
+          sym (ap (withRoom (length after - last .filled)) positions
+          ∙ with-room-next (length after - last .filled) lines [] (omega (arith, enough))
+          ∙ ap (λ (l : List ℕ). lines ++ l) (with-room-end (length after - last .filled - length lines))
+          ∙ append-nil lines)

@@ -1,78 +1,108 @@
 -- The whole day in one buffer: where the run is over, all that is printed; else the buffer has no room for it.
-use Prim.Native.Nat.{ℕ, _+_, _≤_, _<_}
+use Prim.Native.Nat.{ℕ, _+_, _-_, _≤_, _<_}
 use native.Mathlib.Omega.{arith}
 use mathlib.Core.Path.{_≡_, refl, sym, ap, _∙_}
-use mathlib.Core.List.{List, [], _++_, append-nil}
+use mathlib.Core.List.{List, [], _∷_, _++_, append-nil}
 use mathlib.Core.Bool.{Bool, true, false, cond}
-use lib.ListN.{length, take, length-append, length-take}
-use Rattle.market.specs.declared.Answer.the-variants.{Refused}
-use Rattle.market.specs.Tests.{_<?_}
-use Rattle.printing.specs.Lines.{answerLine, printedLine}
-use Rattle.heading.specs.Heading.{heading, maxText}
+use lib.ListN.{drop, length, take, length-append, take-append-drop}
+use lib.Seq.{length-take-le}
+use borrow.Author.Tests.{eq-eqb, leb-false, leb-true, ne-eqb}
+use Rattle.market.specs.Tests.{_=?_, _≤?_}
+use Rattle.market.proofs.Logic.{never}
+use Rattle.printing.proofs.Buffer.{drop-further}
+use Rattle.commands.specs.Output.{withRoom, joined}
+use Rattle.commands.proofs.WithRoom.{with-room-end, with-room-none}
 use Rattle.dayfile.specs.declared.Run.{Run}
-use Rattle.dayfile.specs.Output.{afterHeading, printed, tooLong}
-use Rattle.dayfile.specs.Run.{Begins, Continues, Prints, left, room}
+use Rattle.dayfile.specs.Output.{outputs, printed}
+use Rattle.dayfile.specs.Run.{Begins, Continues, Prints, left, room, taken}
+use Rattle.dayfile.proofs.Resuming.{none-left}
+use Rattle.dayfile.proofs.Some.{left-some, printed-some}
 
--- something is printed for every text
-printed-some : (t : List ℕ) → 0 < length (printed t)
-unfolding printed answerLine printedLine
-printed-some t = go (maxText <? length t)
-  where
-    go : (k : Bool) → 0 < length (cond k (answerLine 0 (Refused tooLong 0)) (afterHeading (heading t)))
-    go true = omega arith
-    go false = omega arith
+-- the number of bytes, where they are all that is printed, and where they are less
+number-all : (some all : List ℕ) → some ≡ all → length some ≡ cond (length some =? length all) (length some) 0
+number-all some all e = rw (eq-eqb (length some) (length all) (ap length e))
 
--- a run that is over leaves nothing
-none-left : (text : List ℕ) (r : Run) → r .over ≡ true → left text r ≡ []
-unfolding left
-none-left text r e = rw e
+number-less : (some all : List ℕ) → length some < length all → 0 ≡ cond (length some =? length all) (length some) 0
+number-less some all h = rw (ne-eqb (length some) (length all) (λ e. absurd (omega (arith, h, e))))
+
+-- a buffer by what stands at its start
+buffered : (before after bytes : List ℕ) (n : ℕ) → n ≤ length after → take n after ≡ bytes
+    → drop n after ≡ drop n before → after ≡ bytes ++ drop (length bytes) before
+buffered before after bytes n inside e past =
+    let size : n ≡ length bytes = sym (length-take-le n after inside) ∙ ap length e in
+    sym (take-append-drop n after)
+    ∙ ap (λ (l : List ℕ). l ++ drop n after) e
+    ∙ ap (λ (l : List ℕ). bytes ++ l) past
+    ∙ ap (λ (i : ℕ). bytes ++ drop i before) size
 
 module _ {text before after : List ℕ} {r : Run} (b : Begins text before r after) where
-  -- what stands in the buffer is part of what is printed
-  part : r .filled ≤ length (printed text)
-  part =
-      let whole = ap length (b .whole) in
-      let two = length-append (take (r .filled) after) (left text r) in
-      let first = length-take (r .filled) after in
-      let inside = b .filled in
-      omega (arith, whole, two, first, inside)
+  -- a run that goes on has room
+  pub begins-room : r .over ≡ false → room ≤ length before
+  begins-room e = go (room ≤? length before) refl
+    where
+      go : (k : Bool) → (room ≤? length before) ≡ k → room ≤ length before
+      go true q = leb-true room (length before) q
+      go false q = never (sym e ∙ b .small (leb-false room (length before) q))
+
+  -- nothing that is left has room
+  module _ (full : withRoom (length after - r .filled) (left text r) ≡ []) where
+    part : take (r .filled) after ≡ taken (length before) text
+    part = sym (append-nil (take (r .filled) after)) ∙ ap (λ (l : List ℕ). take (r .filled) after ++ l) (sym full) ∙ b .fits
+
+    count : length (taken (length before) text) ≡ r .filled
+    count = sym (ap length part) ∙ length-take-le (r .filled) after (b .filled)
+
+    prints : {n : ℕ}
+        → n ≡ cond (length (taken (length before) text) =? length (printed text)) (length (taken (length before) text)) 0
+        → Prints text before n after
+    prints e = record {
+      size = b .size;
+      buffer = buffered before after (taken (length before) text) (r .filled) (b .filled) part (b .past);
+      number = e;
+    }
 
   pub prints-over : r .over ≡ true → Prints text before (r .filled) after
   prints-over e =
-      let all : take (r .filled) after ≡ printed text =
-      sym (append-nil (take (r .filled) after))
-      ∙ ap (λ (l : List ℕ). take (r .filled) after ++ l) (sym (none-left text r e))
-      ∙ b .whole in
-      record { size = b .size; inside = b .filled; whole = λ some. all; enough = λ h. some-filled all }
+      prints full (go (room ≤? length before) refl)
     where
-      some-filled : take (r .filled) after ≡ printed text → 0 < r .filled
-      some-filled all =
-          let some = printed-some text in
-          let size = ap length all in
-          let first = length-take (r .filled) after in
-          omega (arith, some, size, first)
+      full : withRoom (length after - r .filled) (left text r) ≡ []
+      full = ap (withRoom (length after - r .filled)) (none-left text r e) ∙ with-room-end (length after - r .filled)
 
-  pub prints-none : length after < r .filled + room → Prints text before 0 after
-  prints-none h = record {
-    size = b .size;
-    inside = omega arith;
-    whole = λ some. absurd (omega (arith, some));
-    enough = λ e. let p = part in let size = b .size in absurd (omega (arith, h, p, size, e));
+      bytes : List ℕ
+      bytes = taken (length before) text
+
+      go : (k : Bool) → (room ≤? length before) ≡ k
+          → r .filled ≡ cond (length bytes =? length (printed text)) (length bytes) 0
+      go true q =
+          sym (count full)
+          ∙ number-all bytes (printed text)
+          (sym (part full)
+          ∙ sym (append-nil (take (r .filled) after))
+          ∙ ap (λ (os : List (List ℕ)). take (r .filled) after ++ joined os) (sym (none-left text r e))
+          ∙ b .whole (leb-true room (length before) q))
+      go false q =
+          let none = ap length (with-room-none (length before) (outputs text) (leb-false room (length before) q)) in
+          let zero : r .filled ≡ 0 = omega (arith, none, count full) in
+          zero ∙ number-less bytes (printed text) (omega (arith, none, printed-some text))
+
+  pub prints-none : r .over ≡ false → length after < r .filled + room → Prints text before 0 after
+  prints-none e h =
+      let full = with-room-none (length after - r .filled) (left text r) (omega (arith, h)) in
+      let two = length-append (take (r .filled) after) (joined (left text r)) in
+      let whole = ap length (b .whole (begins-room e)) in
+      let first = length-take-le (r .filled) after (b .filled) in
+      let some = left-some text r e (b .going e) in
+      prints full
+      (number-less (taken (length before) text) (printed text)
+      (omega (arith, two, whole, first, some, count full)))
+
+  pub begins-then : {q : Run} {last : List ℕ} → r .over ≡ false → Continues text r after q last → Begins text before q last
+  begins-then {q} {last} e c = record {
+    going = c .going;
+    small = λ h. absurd (omega (arith, h, begins-room e));
+    size = c .size ∙ b .size;
+    filled = c .filled;
+    whole = λ enough. c .whole ∙ b .whole enough;
+    fits = c .fits ∙ b .fits;
+    past = c .past ∙ drop-further after before (r .filled) (q .filled) (c .forward) (b .past);
   }
-
-pub begins-then : {text before middle after : List ℕ} {r q : Run} → Begins text before r middle
-    → Continues text r middle q after → Begins text before q after
-begins-then b c = record {
-  going = c .going;
-  size = c .size ∙ b .size;
-  filled = c .filled;
-  whole = c .whole ∙ b .whole;
-}
-
-pub prints-small : (text before : List ℕ) → length before < room → Prints text before 0 before
-prints-small text before h = record {
-  size = refl;
-  inside = omega arith;
-  whole = λ some. absurd (omega (arith, some));
-  enough = λ e. absurd (omega (arith, h, e));
-}

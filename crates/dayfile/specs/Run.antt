@@ -1,30 +1,31 @@
 -- A run of a day file in parts: what was put into the buffer, and what is still to be printed.
-use Prim.Native.Nat.{ℕ, suc, _+_, _*_, _≤_, _<_}
+use Prim.Native.Nat.{ℕ, suc, _+_, _*_, _-_, _≤_, _<_}
 use mathlib.Core.Path.{_≡_}
 use mathlib.Core.List.{List, [], _++_}
-use mathlib.Core.Bool.{Bool, true, false}
+use mathlib.Core.Bool.{Bool, true, false, cond}
 use lib.ListN.{drop, length, take}
 use Rattle.market.specs.declared.Answer.the-variants.{Refused}
+use Rattle.market.specs.Tests.{_=?_}
 use Rattle.market.specs.View.{view}
 use Rattle.market.specs.Sound.{sound}
 use Rattle.printing.specs.Buffer.{Puts}
 use Rattle.printing.specs.Lines.{answerLine}
 use Rattle.heading.specs.Heading.{maxText}
-use Rattle.commands.specs.Output.{linesFrom}
+use Rattle.commands.specs.Output.{withRoom, joined, outputsFrom}
 pub use Rattle.commands.specs.Stand.{room}
 use Rattle.dayfile.specs.declared.Run.{Run}
-use Rattle.dayfile.specs.Output.{printed, tooLong}
+use Rattle.dayfile.specs.Output.{outputs, printed, tooLong}
 
 -- what the commands from here on print, and the positions after them
-abbrev pub ahead : List ℕ → Run → List ℕ
-ahead text r = linesFrom (view (r .state)) (r .line) (drop (r .at) text)
+abbrev pub ahead : List ℕ → Run → List (List ℕ)
+ahead text r = outputsFrom (view (r .state)) (r .line) (drop (r .at) text)
 
 -- what is still to be printed
-abbrev pub leftBy : Bool → List ℕ → List ℕ
-leftBy true t = []
-leftBy false t = t
+abbrev pub leftBy : Bool → List (List ℕ) → List (List ℕ)
+leftBy true os = []
+leftBy false os = os
 
-unfoldable pub left : List ℕ → Run → List ℕ
+unfoldable pub left : List ℕ → Run → List (List ℕ)
 left text r = leftBy (r .over) (ahead text r)
 
 -- how much there is still to do, if n is how much is ahead
@@ -33,7 +34,7 @@ toGoBy true n = 0
 toGoBy false n = suc n
 
 unfoldable pub toGo : List ℕ → Run → ℕ
-toGo text r = toGoBy (r .over) (length (ahead text r))
+toGo text r = toGoBy (r .over) (length (joined (ahead text r)))
 
 -- a run that is not over stands at a place of its text with a sound state; a command takes at most 9 lines and at least a
 -- byte, so that the line's number stays small
@@ -48,19 +49,29 @@ pub record TooLong (before : List ℕ) (r : Run) (after : List ℕ) : Type 0 whe
   pub over : r .over ≡ true
   pub puts : Puts before 0 (answerLine 0 (Refused tooLong 0)) after (r .filled)
 
--- the beginning: what stands in the buffer and what is left make up what is to be printed
+-- the beginning: what stands in the buffer makes up what is to be printed with what is left, and what has room with what
+-- of that has room; what stands behind it stays. In a buffer without room for an output nothing begins
 pub record Begins (text before : List ℕ) (r : Run) (after : List ℕ) : Type 0 where
   pub going : r .over ≡ false → Going text r
+  pub small : length before < room → r .over ≡ true
   pub size : length after ≡ length before
   pub filled : r .filled ≤ length after
-  pub whole : take (r .filled) after ++ left text r ≡ printed text
+  pub whole : room ≤ length before → take (r .filled) after ++ joined (left text r) ≡ printed text
+  pub fits : take (r .filled) after ++ withRoom (length after - r .filled) (left text r)
+      ≡ withRoom (length before) (outputs text)
+  pub past : drop (r .filled) after ≡ drop (r .filled) before
 
--- r′ goes on from r: what stands in the buffer and what is left make up the same as before, and less is to do
+-- r′ goes on from r: what stands in the buffer makes up the same as before with what is left, and with what of that has
+-- room; what stands behind it stays, and less is to do
 pub record Continues (text : List ℕ) (r : Run) (before : List ℕ) (r′ : Run) (after : List ℕ) : Type 0 where
   pub going : r′ .over ≡ false → Going text r′
   pub size : length after ≡ length before
   pub filled : r′ .filled ≤ length after
-  pub whole : take (r′ .filled) after ++ left text r′ ≡ take (r .filled) before ++ left text r
+  pub forward : r .filled ≤ r′ .filled
+  pub whole : take (r′ .filled) after ++ joined (left text r′) ≡ take (r .filled) before ++ joined (left text r)
+  pub fits : take (r′ .filled) after ++ withRoom (length after - r′ .filled) (left text r′)
+      ≡ take (r .filled) before ++ withRoom (length before - r .filled) (left text r)
+  pub past : drop (r′ .filled) after ≡ drop (r′ .filled) before
   pub less : toGo text r′ < toGo text r
 
 -- r′ goes on from r as far as the buffer has room
@@ -68,9 +79,14 @@ pub record Fills (text : List ℕ) (r : Run) (before : List ℕ) (r′ : Run) (a
   pub continues : Continues text r before r′ after
   pub full : r′ .over ≡ false → length after < r′ .filled + room
 
--- the whole day in one buffer: all that is printed stands at its start, or it has no room for that, and n is 0
+-- what a buffer of this size takes of the day
+abbrev pub taken : ℕ → List ℕ → List ℕ
+taken size text = withRoom size (outputs text)
+
+-- the whole day in one buffer: what the buffer takes stands at its start, what stood behind it stays; n is how many bytes
+-- that is if it is all that is printed, else 0
 pub record Prints (text before : List ℕ) (n : ℕ) (after : List ℕ) : Type 0 where
   pub size : length after ≡ length before
-  pub inside : n ≤ length after
-  pub whole : 0 < n → take n after ≡ printed text
-  pub enough : length (printed text) + room ≤ length before → 0 < n
+  pub buffer : after ≡ taken (length before) text ++ drop (length (taken (length before) text)) before
+  pub number : n
+      ≡ cond (length (taken (length before) text) =? length (printed text)) (length (taken (length before) text)) 0

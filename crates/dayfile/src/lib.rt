@@ -12,7 +12,7 @@ use opening::refused_opening;
 use printing::put_answer;
 use printing::put_positions;
 ghost use mathlib.Core.Path.{_≡_};
-ghost use mathlib.Core.Bool.{false};
+ghost use mathlib.Core.Bool.{true, false};
 ghost use Prim.Native.Nat.{_+_, _≤_};
 ghost use lib.ListN.{length};
 ghost use Rattle.market.specs.Answers.{isDone};
@@ -35,7 +35,9 @@ pub struct Run {
     pub over: bool,
 }
 
-// Goes on with a run until it is over or the buffer has no room for another command.
+// Goes on with a run until it is over or the buffer has no room for another command. Who calls this shows that the run is
+// one of `begin` or `resume` for the same text (`Begins` and `Continues` say `Going`), that it is not over, and that the
+// buffer has room; `filled` may be set back once the bytes before it are used.
 pub fn resume(text: &[u8], from: Run, out: &mut [u8]) -> Run
     requires { ⌜ Going (now text) from ⌝ }
     requires { ⌜ from .over ≡ false ⌝ }
@@ -91,14 +93,11 @@ fn is_done(answer: Answer) -> bool
     }
 }
 
-// A text over 65,536 bytes: its answer, and nothing else.
-fn too_long(out: &mut [u8]) -> Run
-    requires { ⌜ room ≤ length (now out) ⌝ }
-    ensures { λ r. ⌜ TooLong (now (out .entry)) r (now (out .exit)) ⌝ }
+// A run that is over; nobody goes on from its state.
+fn ended(filled: usize) -> Run
+    ensures { λ r. ⌜ (r .over ≡ true) × (r .filled ≡ filled) ⌝ }
 {
     let outcome = refused_opening(TOO_LONG, 0);
-    let answer = outcome.answer;
-    let filled = put_answer(out, 0, 0, answer);
     let state = outcome.state;
     Run {
         state,
@@ -109,11 +108,22 @@ fn too_long(out: &mut [u8]) -> Run
     }
 }
 
-// Reads the heading, and puts its answer into the buffer.
-pub fn begin(text: &[u8], out: &mut [u8]) -> Run
+// A text over 65,536 bytes: its answer, and nothing else.
+fn too_long(out: &mut [u8]) -> Run
     requires { ⌜ room ≤ length (now out) ⌝ }
+    ensures { λ r. ⌜ TooLong (now (out .entry)) r (now (out .exit)) ⌝ }
+{
+    let answer = Answer::Refused(TOO_LONG, 0);
+    ended(put_answer(out, 0, 0, answer))
+}
+
+// Reads the heading, and puts its answer into the buffer. A buffer under `ROOM` bytes stays as it was.
+pub fn begin(text: &[u8], out: &mut [u8]) -> Run
     ensures { λ r. ⌜ Begins (now (text .entry)) (now (out .entry)) r (now (out .exit)) ⌝ }
 {
+    if out.len() < ROOM {
+        return ended(0);
+    }
     if MAX_TEXT < text.len() {
         return too_long(out);
     }
@@ -131,21 +141,19 @@ pub fn begin(text: &[u8], out: &mut [u8]) -> Run
     }
 }
 
-// The whole day in one buffer: how many bytes are printed, or 0 where the buffer has no room for them.
+// The whole day in one buffer, as far as each command, and at last the positions, begin with `ROOM` bytes left: how many
+// bytes are printed, or 0 where that is not all of the day.
 pub fn whole_day(text: &[u8], out: &mut [u8]) -> usize
     ensures { λ r. ⌜ Prints (now (text .entry)) (now (out .entry)) r (now (out .exit)) ⌝ }
 {
-    if out.len() < ROOM {
+    let first = begin(text, out);
+    if first.over {
+        return first.filled;
+    }
+    if out.len() - ROOM < first.filled {
         return 0;
     }
-    let r = begin(text, out);
-    if r.over {
-        return r.filled;
-    }
-    if out.len() - ROOM < r.filled {
-        return 0;
-    }
-    let last = resume(text, r, out);
+    let last = resume(text, first, out);
     if !last.over {
         return 0;
     }

@@ -14,7 +14,7 @@ use Rattle.market.specs.declared.State.{State}
 use Rattle.market.specs.declared.Ticket.{Ticket}
 use Rattle.market.specs.View.{dayOf, view}
 use Rattle.market.specs.Sound.{sound}
-use Rattle.market.specs.Answers.{isDone}
+use Rattle.market.specs.Answers.{isDone, numbersOf}
 use Rattle.market.specs.Calls.{Call, noTickets}
 use Rattle.market.specs.Step.{Reply, step}
 use Rattle.market.specs.Parts.{Carries, bookOf, callOf, rulesOf}
@@ -28,6 +28,7 @@ module _ (s : State) (l : List ℕ) (c : Call) where
       record {
         meets = record {
           answer = ap (λ (r : Reply). r .answer) (sym h);
+          numbers = ap (λ (r : Reply). numbersOf (r .answer)) (sym h);
           state = ap (λ (r : Reply). r .day) (sym h);
           list = ap (λ (r : Reply). r .list) (sym h);
         };
@@ -43,7 +44,12 @@ module _ (s : State) (l : List ℕ) (c : Call) where
     hands-back a n at ea e =
         let same = refused-unchanged (view s) l c (ap isDone (sym (h .answer) ∙ sym ea ∙ e)) in
         record {
-          meets = record { answer = ea ∙ h .answer; state = sym (same .0); list = h .list };
+          meets = record {
+            answer = ea ∙ h .answer;
+            numbers = ap numbersOf (ea ∙ h .answer);
+            state = sym (same .0);
+            list = h .list;
+          };
           refusal = subst (λ (z : Answer). HandedBack s z s) (sym e) refl;
         }
 
@@ -51,7 +57,12 @@ module _ (s : State) (l : List ℕ) (c : Call) where
         → (z : State) → view z ≡ dayOf (rulesOf s) (o .phase) m k (o .book)
         → Does s l c (record { answer = a; state = z }) l′
     joins a code filled left trades ea e z day = record {
-      meets = record { answer = ea ∙ h .answer; state = day ∙ h .day; list = h .list };
+      meets = record {
+        answer = ea ∙ h .answer;
+        numbers = ap numbersOf (ea ∙ h .answer);
+        state = day ∙ h .day;
+        list = h .list;
+      };
       refusal = subst (λ (y : Answer). HandedBack s y z) (sym e) tt;
     }
 

@@ -12,9 +12,11 @@ pub extern "C" fn run_day(text: &[u8], out: &mut [u8]) -> usize
     dayfile::whole_day(text, out)
 }
 
-// The same by the public calls of `engine`, each of which tests the state first. For tests and measurements: its output is
-// compared with that of `run_day`.
+// The same by the public calls of `engine`, each of which tests the state first: it prints the same. For tests and
+// measurements of those calls.
 #[no_mangle]
-pub extern "C" fn run_day_checked(text: &[u8], out: &mut [u8]) -> usize {
+pub extern "C" fn run_day_checked(text: &[u8], out: &mut [u8]) -> usize
+    ensures { λ r. ⌜ Prints (now (text .entry)) (now (out .entry)) r (now (out .exit)) ⌝ }
+{
     checked::whole_day(text, out)
 }

@@ -51,7 +51,7 @@ pub record Passed (text : List ℕ) (from n : ℕ) (table : List Security) (at i
   pub forward : i ≤ at
   pub few : i ≤ length text
   pub inside : 0 < i → at ≤ length text
-  pub places : length table ≡ maxSecurities
+  pub cells : length table ≡ maxSecurities
   pub rest : securitiesFrom (n - i) i table (drop at text) ≡ securitiesFrom n 0 noTable (drop from text)
 
 pub passed-none : (text : List ℕ) (from n : ℕ) → length text ≤ maxText
@@ -64,7 +64,7 @@ passed-none text from n short =
       forward = omega arith;
       few = omega arith;
       inside = λ k. absurd (omega arith);
-      places = refl;
+      cells = refl;
       rest = ap (λ (k : ℕ). securitiesFrom k 0 noTable (drop from text)) whole;
     }
 
@@ -124,6 +124,6 @@ module _ {text : List ℕ} {from n : ℕ} {table : List Security} {at i : ℕ} (
             forward = omega (arith, p .forward);
             few = omega (arith, p .forward);
             inside = λ z. forward .1;
-            places = ap length t ∙ length-set table i row ∙ p .places;
+            cells = ap length t ∙ length-set table i row ∙ p .cells;
             rest = rw (t, add-one i) (sym (line-here ∙ rw e) ∙ all);
           }

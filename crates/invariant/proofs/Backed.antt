@@ -9,10 +9,10 @@ use Rattle.market.specs.declared.Order.{Order}
 use Rattle.market.specs.declared.Side.{Side}
 use Rattle.market.specs.declared.Side.the-variants.{Buy, Sell}
 use Rattle.market.specs.declared.Rules.{Rules}
-use Rattle.market.specs.Day.{Asset, Day, Money, Pieces, Position, columnsOf, place, position, positions}
+use Rattle.market.specs.Day.{Asset, Day, Money, Pieces, Position, columnsOf, cell, position, positions}
 use Rattle.market.specs.Day.{totalLimit, withPositions, withWaiting}
 use Rattle.market.specs.Codes.{giveCode}
-use Rattle.market.specs.Needs.{assetOf, columnOf, need, needAt, ofAsset, only, placeFor}
+use Rattle.market.specs.Needs.{assetOf, columnOf, need, needAt, ofAsset, only, cellFor}
 use Rattle.market.specs.Positions.{block, blockFor, change, freeFor, release, releaseFor, total, totalAt}
 use Rattle.market.specs.Questions.{covered}
 use Rattle.market.specs.Entry.{admitted}
@@ -38,7 +38,7 @@ module _ (x x′ : List Order) (d : Day) (backed : Backed x d) (w′ : List Orde
     (hp : p < d .rules .participants) (hs : s < d .rules .securities)
     (f : Position → Position) (less more : ℕ) where
   abbrev at : ℕ
-  at = place p (columnOf side (d .rules) s)
+  at = cell p (columnOf side (d .rules) s)
 
   abbrev here : Position
   here = position (positions (assetOf side) d) at
@@ -54,7 +54,7 @@ module _ (x x′ : List Order) (d : Day) (backed : Backed x d) (w′ : List Orde
       hc = column-known side (d .rules) s (backed .rulesOk) hs
 
       held : (z : Side) →
-          let i : ℕ = place p (columnOf z (d .rules) s) in
+          let i : ℕ = cell p (columnOf z (d .rules) s) in
           let l : Position = position (positions (assetOf z) d) i in
           columnOf z (d .rules) s < columnsOf (assetOf z) (d .rules)
           → total (f l) ≡ total l → (f l) .blocked + less ≡ l .blocked + more
@@ -79,10 +79,10 @@ module _ (d : Day) (o : Order) (hp : o .participant < d .rules .participants)
   -- an order among those that block has its need blocked
   pub need-blocked : (x : List Order) → Backed x d
       → ((y : Asset) (j : ℕ) → needAt y (d .rules) (d .turnover) j o ≤ needsOf y d (x ++ d .waiting) j)
-      → own ≤ (position (positions (assetOf (o .side)) d) (placeFor (d .rules) o)) .blocked
+      → own ≤ (position (positions (assetOf (o .side)) d) (cellFor (d .rules) o)) .blocked
   need-blocked x backed listed =
       let z = o .side in
-      let at = placeFor (d .rules) o in
+      let at = cellFor (d .rules) o in
       omega (
         arith,
         listed (assetOf z) at,
@@ -99,7 +99,7 @@ module _ (d : Day) (o : Order) (hp : o .participant < d .rules .participants)
   unfolding releaseFor needAt
   release-backed x x′ w′ backed needs =
       let z = o .side in
-      let at = placeFor (d .rules) o in
+      let at = cellFor (d .rules) o in
       let has = need-blocked x backed (λ y j. omega (arith, needs y j)) in
       reblock x x′ d backed w′ z (o .participant) (o .security) hp hs (release own) own 0 (omega arith) (omega arith)
       (λ y j. omega (arith, needs y j, asset-nothing y z at j))
@@ -114,13 +114,13 @@ module _ (d : Day) (o : Order) (hp : o .participant < d .rules .participants)
       let has = leb-true own (freeFor d o) covers in
       reblock [] (o ∷ []) (giveCode d (o .participant)) (coded backed) (d .waiting) (o .side) (o .participant) (o .security)
       hp hs (block own) 0 own (omega arith) (omega arith)
-      (λ y j. omega (arith, asset-nothing y (o .side) (placeFor (d .rules) o) j))
+      (λ y j. omega (arith, asset-nothing y (o .side) (cellFor (d .rules) o) j))
 
 -- at a known place the free amount of an asset moves, and totals stay within the limit
 pub standing-moved : (x : Asset) (d : Day) (p c : ℕ) (f : Position → Position) → Standing d → p < d .rules .participants
     → c < columnsOf x (d .rules) →
-    let m : List ℕ = change (positions x d) (place p c) f in
-    (f (position (positions x d) (place p c))) .blocked ≡ (position (positions x d) (place p c)) .blocked
+    let m : List ℕ = change (positions x d) (cell p c) f in
+    (f (position (positions x d) (cell p c))) .blocked ≡ (position (positions x d) (cell p c)) .blocked
     → ((k : ℕ) → k < columnsOf x (d .rules) → totalAt (d .rules .participants) m k ≤ totalLimit x)
     → Standing (withPositions x d m)
 standing-moved x d p c f g hp hc same top = record {
@@ -135,8 +135,8 @@ standing-moved x d p c f g hp hc same top = record {
 }
   where
     each : (x : Asset) → c < columnsOf x (d .rules) →
-        let m : List ℕ = change (positions x d) (place p c) f in
-        (f (position (positions x d) (place p c))) .blocked ≡ (position (positions x d) (place p c)) .blocked
+        let m : List ℕ = change (positions x d) (cell p c) f in
+        (f (position (positions x d) (cell p c))) .blocked ≡ (position (positions x d) (cell p c)) .blocked
         → ((k : ℕ) → k < columnsOf x (d .rules) → totalAt (d .rules .participants) m k ≤ totalLimit x) → (y : Asset)
         → Held (d .rules) (columnsOf y (d .rules)) (totalLimit y) (positions y (withPositions x d m))
         (needsOf y d (d .waiting))

@@ -7,9 +7,9 @@ use mathlib.Core.Bool.{Bool, true, false}
 use lib.ListN.{length}
 use lib.Dec.{eqb}
 use borrow.Author.Tests.{eqb-true, eqb-false}
-use Rattle.market.specs.Limits.{places}
+use Rattle.market.specs.Limits.{cells}
 use Rattle.market.specs.declared.Rules.{Rules}
-use Rattle.market.specs.Day.{Position, blockedAt, place, position}
+use Rattle.market.specs.Day.{Position, blockedAt, cell, position}
 use Rattle.market.specs.Needs.{only}
 use Rattle.market.specs.Positions.{change, receive, total, totalAt}
 use Rattle.market.proofs.Amounts.{change-law, length-change, only-zero, still}
@@ -17,25 +17,25 @@ use Rattle.market.proofs.Totals.{total-change, total-transfer}
 use Rattle.invariant.specs.Standing.{Held}
 
 -- one participant's amount is part of the total
-pub total-part : (n c q : ℕ) (m : List ℕ) → q < n → total (position m (place q c)) ≤ totalAt n m c
+pub total-part : (n c q : ℕ) (m : List ℕ) → q < n → total (position m (cell q c)) ≤ totalAt n m c
 total-part zero c q m h = absurd (omega arith)
 total-part (suc n) c q m h = go (λ l. total-part n c q m l) (eqb q n) refl
   where
-    go : (q < n → total (position m (place q c)) ≤ totalAt n m c) → (k : Bool) → eqb q n ≡ k
-        → total (position m (place q c)) ≤ totalAt (suc n) m c
+    go : (q < n → total (position m (cell q c)) ≤ totalAt n m c) → (k : Bool) → eqb q n ≡ k
+        → total (position m (cell q c)) ≤ totalAt (suc n) m c
     go again true e =
-        subst (λ (i : ℕ). total (position m (place i c)) ≤ totalAt (suc n) m c) (sym (eqb-true q n e)) (omega arith)
+        subst (λ (i : ℕ). total (position m (cell i c)) ≤ totalAt (suc n) m c) (sym (eqb-true q n e)) (omega arith)
     go again false e = omega (arith, again (omega (arith, eqb-false q n e)))
 
 module _ {r : Rules} {n limit : ℕ} {m : List ℕ} {need : ℕ → ℕ} (h : Held r n limit m need) where
-  pub held-place : (p c : ℕ) → p < r .participants → c < n → place p c < places
-  held-place p c hp hc = omega (arith, h .wide, h .rows)
+  pub held-cell : (p c : ℕ) → p < r .participants → c < n → cell p c < cells
+  held-cell p c hp hc = omega (arith, h .wide, h .rows)
 
   -- both numbers of a known position stand in the list
-  pub held-inside : (p c : ℕ) → p < r .participants → c < n → blockedAt (place p c) < length m
-  held-inside p c hp hc = omega (arith, held-place p c hp hc, h .positions)
+  pub held-inside : (p c : ℕ) → p < r .participants → c < n → blockedAt (cell p c) < length m
+  held-inside p c hp hc = omega (arith, held-cell p c hp hc, h .positions)
 
-  pub held-within : (p c : ℕ) → p < r .participants → c < n → total (position m (place p c)) ≤ limit
+  pub held-within : (p c : ℕ) → p < r .participants → c < n → total (position m (cell p c)) ≤ limit
   held-within p c hp hc = omega (arith, total-part (r .participants) c p m hp, h .topped c hc)
 
   -- the same needs in other words
@@ -44,68 +44,68 @@ module _ {r : Rules} {n limit : ℕ} {m : List ℕ} {need : ℕ → ℕ} (h : He
     wide = h .wide;
     rows = h .rows;
     positions = h .positions;
-    blocked = λ p c hp hc. h .blocked p c hp hc ∙ sym (e (place p c));
+    blocked = λ p c hp hc. h .blocked p c hp hc ∙ sym (e (cell p c));
     topped = h .topped;
   }
 
   -- at a known place, blocked and need move alike, and the total stays
   pub held-block : (q e : ℕ) (f : Position → Position) (less more : ℕ) (need′ : ℕ → ℕ)
       → q < r .participants → e < n
-      → total (f (position m (place q e))) ≡ total (position m (place q e))
-      → (f (position m (place q e))) .blocked + less ≡ (position m (place q e)) .blocked + more
-      → ((j : ℕ) → need′ j + only (place q e) j less ≡ need j + only (place q e) j more)
-      → Held r n limit (change m (place q e) f) need′
+      → total (f (position m (cell q e))) ≡ total (position m (cell q e))
+      → (f (position m (cell q e))) .blocked + less ≡ (position m (cell q e)) .blocked + more
+      → ((j : ℕ) → need′ j + only (cell q e) j less ≡ need j + only (cell q e) j more)
+      → Held r n limit (change m (cell q e) f) need′
   held-block q e f less more need′ hq he same moved needs =
       let i = held-inside q e hq he in
       record {
         wide = h .wide;
         rows = h .rows;
-        positions = length-change m (place q e) f ∙ h .positions;
+        positions = length-change m (cell q e) f ∙ h .positions;
         blocked = λ p c hp hc.
-            let a = change-law (λ (x : Position). x .blocked) m (place q e) (place p c) f less more i moved in
-            omega (arith, a, needs (place p c), h .blocked p c hp hc);
+            let a = change-law (λ (x : Position). x .blocked) m (cell q e) (cell p c) f less more i moved in
+            omega (arith, a, needs (cell p c), h .blocked p c hp hc);
         topped = λ c hc.
-            let a = total-change (r .participants) c m (place q e) f 0 0 i (omega arith) in
+            let a = total-change (r .participants) c m (cell q e) f 0 0 i (omega arith) in
             omega (arith, a, h .topped c hc);
       }
 
   -- at a known place, the free amount moves
   pub held-move : (q e : ℕ) (f : Position → Position) → q < r .participants → e < n
-      → (f (position m (place q e))) .blocked ≡ (position m (place q e)) .blocked
-      → ((c : ℕ) → c < n → totalAt (r .participants) (change m (place q e) f) c ≤ limit)
-      → Held r n limit (change m (place q e) f) need
+      → (f (position m (cell q e))) .blocked ≡ (position m (cell q e)) .blocked
+      → ((c : ℕ) → c < n → totalAt (r .participants) (change m (cell q e) f) c ≤ limit)
+      → Held r n limit (change m (cell q e) f) need
   held-move q e f hq he same top =
       let i = held-inside q e hq he in
       record {
         wide = h .wide;
         rows = h .rows;
         topped = top;
-        positions = length-change m (place q e) f ∙ h .positions;
+        positions = length-change m (cell q e) f ∙ h .positions;
         blocked = λ p c hp hc.
-            still (λ (y : Position). y .blocked) m (place q e) f i same (place p c) ∙ h .blocked p c hp hc;
+            still (λ (y : Position). y .blocked) m (cell q e) f i same (cell p c) ∙ h .blocked p c hp hc;
       }
 
   -- between two known places of one column: the first pays cost in the way f, the second gets it
   pub held-transfer : (q s e : ℕ) (f : Position → Position) (fall cost : ℕ) (need′ : ℕ → ℕ)
       → q < r .participants → s < r .participants → e < n
-      → total (f (position m (place q e))) + cost ≡ total (position m (place q e))
-      → (f (position m (place q e))) .blocked + fall ≡ (position m (place q e)) .blocked
-      → ((j : ℕ) → need′ j + only (place q e) j fall ≡ need j)
-      → Held r n limit (change (change m (place q e) f) (place s e) (receive cost)) need′
+      → total (f (position m (cell q e))) + cost ≡ total (position m (cell q e))
+      → (f (position m (cell q e))) .blocked + fall ≡ (position m (cell q e)) .blocked
+      → ((j : ℕ) → need′ j + only (cell q e) j fall ≡ need j)
+      → Held r n limit (change (change m (cell q e) f) (cell s e) (receive cost)) need′
   held-transfer q s e f fall cost need′ hq hs he pays frees needs =
       let i = held-inside q e hq he in
-      let m1 = change m (place q e) f in
+      let m1 = change m (cell q e) f in
       let is = held-inside s e hs he in
-      let i2 : blockedAt (place s e) < length m1 = omega (arith, is, length-change m (place q e) f) in
+      let i2 : blockedAt (cell s e) < length m1 = omega (arith, is, length-change m (cell q e) f) in
       record {
         wide = h .wide;
         rows = h .rows;
-        positions = length-change m1 (place s e) (receive cost) ∙ length-change m (place q e) f ∙ h .positions;
+        positions = length-change m1 (cell s e) (receive cost) ∙ length-change m (cell q e) f ∙ h .positions;
         blocked = λ p c hp hc.
-            let a = change-law (λ (y : Position). y .blocked) m (place q e) (place p c) f fall 0 i (omega arith) in
-            let b = still (λ (y : Position). y .blocked) m1 (place s e) (receive cost) i2 refl (place p c) in
-            let z = only-zero (place q e) (place p c) in
-            omega (arith, a, b, z, needs (place p c), h .blocked p c hp hc);
+            let a = change-law (λ (y : Position). y .blocked) m (cell q e) (cell p c) f fall 0 i (omega arith) in
+            let b = still (λ (y : Position). y .blocked) m1 (cell s e) (receive cost) i2 refl (cell p c) in
+            let z = only-zero (cell q e) (cell p c) in
+            omega (arith, a, b, z, needs (cell p c), h .blocked p c hp hc);
         topped = λ c hc.
             let a = total-transfer (r .participants) c q s e cost m f hq hs (omega (arith, h .wide))
             (omega (arith, h .wide)) i is pays in

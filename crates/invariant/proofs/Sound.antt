@@ -12,7 +12,7 @@ use Rattle.market.specs.declared.Phase.{Phase}
 use Rattle.market.specs.Limits.{columns, maxLots, maxWaiting, positionNumbers}
 use Rattle.market.specs.Tests.{_=?_, _≤?_, allBelow}
 use Rattle.market.specs.declared.Rules.{Rules}
-use Rattle.market.specs.Day.{Asset, Day, Money, Pieces, columnsOf, place, position, positions}
+use Rattle.market.specs.Day.{Asset, Day, Money, Pieces, columnsOf, cell, position, positions}
 use Rattle.market.specs.View.{Sized, dayOf}
 use Rattle.market.specs.Day.{totalLimit, turnoverAt}
 use Rattle.market.specs.Codes.{given}
@@ -65,7 +65,7 @@ module _ (d : Day) (g : Standing d) where
 
 held-own : (r : Rules) (n limit : ℕ) (m : List ℕ) (needs : ℕ → ℕ) → RulesOk r → n ≤ columns
     → length m ≡ positionNumbers
-    → allBelow (r .participants) (λ p. allBelow n (λ c. (position m (place p c)) .blocked =? needs (place p c))) ≡ true
+    → allBelow (r .participants) (λ p. allBelow n (λ c. (position m (cell p c)) .blocked =? needs (cell p c))) ≡ true
     → allBelow n (λ c. totalAt (r .participants) m c ≤? limit) ≡ true
     → Held r n limit m needs
 held-own r n limit m needs ok wide size blocked top = record {
@@ -73,10 +73,10 @@ held-own r n limit m needs ok wide size blocked top = record {
   rows = ok .participants;
   positions = size;
   blocked = λ p c hp hc.
-      eqb-true ((position m (place p c)) .blocked) (needs (place p c))
-      (below-all n (λ c. (position m (place p c)) .blocked =? needs (place p c))
+      eqb-true ((position m (cell p c)) .blocked) (needs (cell p c))
+      (below-all n (λ c. (position m (cell p c)) .blocked =? needs (cell p c))
       (below-all (r .participants)
-      (λ p. allBelow n (λ c. (position m (place p c)) .blocked =? needs (place p c))) blocked p hp) c hc);
+      (λ p. allBelow n (λ c. (position m (cell p c)) .blocked =? needs (cell p c))) blocked p hp) c hc);
   topped = λ c hc. leb-true (totalAt (r .participants) m c) limit (below-all n (λ c. totalAt (r .participants) m c ≤? limit) top c hc);
 }
 

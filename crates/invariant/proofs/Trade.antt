@@ -7,9 +7,9 @@ use Rattle.market.specs.declared.Order.{Order}
 use Rattle.market.specs.declared.Side.the-variants.{Buy, Sell}
 use Rattle.market.specs.declared.Turnover.{Turnover}
 use Rattle.market.specs.Tests.{sumOf}
-use Rattle.market.specs.Day.{Asset, Day, Money, Pieces, columnsOf, currencyOf, row, place, position, positions}
+use Rattle.market.specs.Day.{Asset, Day, Money, Pieces, columnsOf, currencyOf, row, cell, position, positions}
 use Rattle.market.specs.Day.{totalLimit, withTurnover, withWaiting}
-use Rattle.market.specs.Needs.{limitOf, needAt, ofAsset, only, piecesOf, placeFor, sumFor}
+use Rattle.market.specs.Needs.{limitOf, needAt, ofAsset, only, piecesOf, cellFor, sumFor}
 use Rattle.market.specs.Positions.{change, fall, pay, receive, settle}
 use Rattle.market.proofs.Amounts.{only-same}
 use Rattle.market.proofs.Needs.{fall-pays, fall-sells}
@@ -19,7 +19,7 @@ use Rattle.invariant.proofs.Held.{held-transfer}
 
 -- by how much what an order needs of an asset at place j falls when n lots come off it
 abbrev pub fallAt : Asset → Day → Order → ℕ → ℕ → ℕ
-fallAt y d o n j = ofAsset y (o .side) (only (placeFor (d .rules) o) j (fall (d .rules) (d .turnover) o n))
+fallAt y d o n j = ofAsset y (o .side) (only (cellFor (d .rules) o) j (fall (d .rules) (d .turnover) o n))
 
 -- a trade of the orders buy and sell; pending and waiting are x and the day's list before, x′ and w′ after; t′ is the
 -- day's turnover after it
@@ -37,12 +37,12 @@ module _ (x x′ w′ : List Order) (d : Day) (buy sell : Order) (p n : ℕ) (t�
   paid : (y : Asset) (payer other column falls cost : ℕ) → payer < d .rules .participants
       → other < d .rules .participants → column < columnsOf y (d .rules) → cost ≤ falls
       → ((j : ℕ)
-      → needsOf y d (x′ ++ w′) j + only (place payer column) j falls ≡ needsOf y d (x ++ d .waiting) j)
+      → needsOf y d (x′ ++ w′) j + only (cell payer column) j falls ≡ needsOf y d (x ++ d .waiting) j)
       → Held (d .rules) (columnsOf y (d .rules)) (totalLimit y)
-      (change (change (positions y d) (place payer column) (pay falls cost)) (place other column) (receive cost))
+      (change (change (positions y d) (cell payer column) (pay falls cost)) (cell other column) (receive cost))
       (λ j. sumOf (needAt y (d .rules) t′ j) (x′ ++ w′))
   paid y payer other column falls cost hp ho hc pays left =
-      let at = place payer column in
+      let at = cell payer column in
       let has : falls ≤ (position (positions y d) at) .blocked =
       omega (arith, left at, only-same at falls, (backed .held y) .blocked payer column hp hc) in
       held-transfer (backed .held y) payer other column (pay falls cost) falls cost _ hp ho hc (omega arith)
@@ -54,19 +54,19 @@ module _ (x x′ w′ : List Order) (d : Day) (buy sell : Order) (p n : ℕ) (t�
   trade-held Money =
       let column = currencyOf (d .rules) (buy .security) in
       let falls = fall (d .rules) (d .turnover) buy n in
-      let there : placeFor (d .rules) buy ≡ place (buy .participant) column = rw buys in
+      let there : cellFor (d .rules) buy ≡ cell (buy .participant) column = rw buys in
       rw there
       (paid Money (buy .participant) (sell .participant) column falls (sumFor (row (d .rules) (buy .security)) p n)
       (buyOk .participant) (sellOk .participant) (backed .rulesOk .currency (buy .security) (buyOk .security))
       (fall-pays (d .rules) (d .turnover) buy p n buys price buyLots)
       (λ j.
-      let fb : fallAt Money d buy n j ≡ only (place (buy .participant) column) j falls = rw buys in
+      let fb : fallAt Money d buy n j ≡ only (cell (buy .participant) column) j falls = rw buys in
       let fs : fallAt Money d sell n j ≡ 0 = rw sells in
       omega (arith, needs Money j)))
   trade-held Pieces =
       let column = buy .security in
       let falls = fall (d .rules) (d .turnover) sell n in
-      let there : placeFor (d .rules) sell ≡ place (sell .participant) column = rw (sells, one) in
+      let there : cellFor (d .rules) sell ≡ cell (sell .participant) column = rw (sells, one) in
       let sold : falls ≡ piecesOf (row (d .rules) column) n =
       fall-sells (d .rules) (d .turnover) sell n sells sellLots
       ∙ ap (λ (k : ℕ). piecesOf (row (d .rules) k) n) one in
@@ -75,7 +75,7 @@ module _ (x x′ w′ : List Order) (d : Day) (buy sell : Order) (p n : ℕ) (t�
       (sellOk .participant) (buyOk .participant) (buyOk .security) (omega arith)
       (λ j.
       let fb : fallAt Pieces d buy n j ≡ 0 = rw buys in
-      let fs : fallAt Pieces d sell n j ≡ only (place (sell .participant) column) j falls = rw (sells, one) in
+      let fs : fallAt Pieces d sell n j ≡ only (cell (sell .participant) column) j falls = rw (sells, one) in
       omega (arith, needs Pieces j)))
 
   pub trade-backed : Backed x′ after

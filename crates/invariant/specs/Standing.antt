@@ -9,7 +9,7 @@ use Rattle.market.specs.declared.Phase.the-variants.{Open}
 use Rattle.market.specs.Limits.{columns, maxLots, maxParticipants, maxSecurities, maxWaiting, positionNumbers}
 use Rattle.market.specs.Tests.{sumOf}
 use Rattle.market.specs.declared.Rules.{Rules}
-use Rattle.market.specs.Day.{Asset, Day, columnsOf, row, place, position, positions, totalLimit, turnoverAt}
+use Rattle.market.specs.Day.{Asset, Day, columnsOf, row, cell, position, positions, totalLimit, turnoverAt}
 use Rattle.market.specs.Codes.{codesOf, given}
 use Rattle.market.specs.Needs.{needAt, only, piecesOf}
 use Rattle.market.specs.Positions.{totalAt}
@@ -24,7 +24,7 @@ pub record Held (r : Rules) (n limit : ℕ) (m : List ℕ) (need : ℕ → ℕ) 
   pub wide : n ≤ columns
   pub rows : r .participants ≤ maxParticipants
   pub positions : length m ≡ positionNumbers
-  pub blocked : (p c : ℕ) → p < r .participants → c < n → (position m (place p c)) .blocked ≡ need (place p c)
+  pub blocked : (p c : ℕ) → p < r .participants → c < n → (position m (cell p c)) .blocked ≡ need (cell p c)
   pub topped : (c : ℕ) → c < n → totalAt (r .participants) m c ≤ limit
 
 -- what these orders need of an asset at place j

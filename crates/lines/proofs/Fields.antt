@@ -58,9 +58,9 @@ abbrev pub partAt : ℕ → ℕ → Part
 partAt letter i = getD ((rowOf letter) .parts) i Nothing
 
 -- a part with a value is one of at most 5
-pub has-place : (letter i v : ℕ) (field : List ℕ) → Good v ≡ value (partAt letter i) field → i < 5
+pub has-index : (letter i v : ℕ) (field : List ℕ) → Good v ≡ value (partAt letter i) field → i < 5
 unfolding value
-has-place letter i v field e = go (ltb i (length ((rowOf letter) .parts))) refl
+has-index letter i v field e = go (ltb i (length ((rowOf letter) .parts))) refl
   where
     go : (z : Bool) → ltb i (length ((rowOf letter) .parts)) ≡ z → i < 5
     go true h = omega (arith, ltb-true i (length ((rowOf letter) .parts)) h, at-most-five letter)

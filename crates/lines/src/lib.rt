@@ -45,7 +45,7 @@ struct Values {
 }
 
 // 1 to 16 decimal digits without leading zeros.
-fn number(field: &[u8]) -> Value
+pub fn number(field: &[u8]) -> Value
     ensures { λ r. ⌜ r ≡ value Number (now (field .entry)) ⌝ }
 {
     if field.len() == 0 {

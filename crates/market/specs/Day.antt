@@ -57,18 +57,18 @@ columnsOf x r = ifMoney x (r .currencies) (r .securities)
 abbrev pub totalLimit : Asset → ℕ
 totalLimit x = ifMoney x moneyLimit piecesLimit
 
--- the place of a participant's position in a currency or a security: participant × 16 + currency or security
-abbrev pub place : ℕ → ℕ → ℕ
-place p column = p * columns + column
+-- the cell of a participant's position in a currency or a security: participant × 16 + currency or security
+abbrev pub cell : ℕ → ℕ → ℕ
+cell p column = p * columns + column
 
--- free stands at twice the place, blocked behind it
+-- free stands at twice the cell, blocked behind it
 abbrev pub freeAt : ℕ → ℕ
 freeAt j = 2 * j
 
 abbrev pub blockedAt : ℕ → ℕ
 blockedAt j = 2 * j + 1
 
--- the position at a place
+-- the position in a cell
 abbrev pub position : List ℕ → ℕ → Position
 position l j = record { free = getD l (freeAt j) 0; blocked = getD l (blockedAt j) 0 }
 

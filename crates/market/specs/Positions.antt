@@ -7,11 +7,11 @@ use Rattle.market.specs.Day.{Position}
 use Rattle.market.specs.declared.Turnover.{Turnover}
 use Rattle.market.specs.Tests.{sumBelow}
 use Rattle.market.specs.declared.Rules.{Rules}
-use Rattle.market.specs.Day.{Day, blockedAt, currencyOf, freeAt, row, place, position, positions}
+use Rattle.market.specs.Day.{Day, blockedAt, currencyOf, freeAt, row, cell, position, positions}
 use Rattle.market.specs.Day.{turnoverAt, withLots, withMoney, withPieces, withPositions}
-use Rattle.market.specs.Needs.{assetOf, need, piecesOf, placeFor, sumFor}
+use Rattle.market.specs.Needs.{assetOf, need, piecesOf, cellFor, sumFor}
 
--- the position at place j becomes f of it
+-- the position at cell j becomes f of it
 unfoldable pub change : List ℕ → ℕ → (Position → Position) → List ℕ
 change l j f = set (set l (freeAt j) ((f (position l j)) .free)) (blockedAt j) ((f (position l j)) .blocked)
 
@@ -38,7 +38,7 @@ pay fall cost p = record { free = p .free + (fall - cost); blocked = p .blocked 
 abbrev pub onNeed : (ℕ → Position → Position) → Day → Order → Day
 onNeed f d o =
     withPositions (assetOf (o .side)) d
-    (change (positions (assetOf (o .side)) d) (placeFor (d .rules) o) (f (need (d .rules) (d .turnover) o)))
+    (change (positions (assetOf (o .side)) d) (cellFor (d .rules) o) (f (need (d .rules) (d .turnover) o)))
 
 -- what an order needs is blocked
 unfoldable pub blockFor : Day → Order → Day
@@ -50,7 +50,7 @@ releaseFor d o = onNeed release d o
 
 -- what is free where an order blocks
 abbrev pub freeFor : Day → Order → ℕ
-freeFor d o = (position (positions (assetOf (o .side)) d) (placeFor (d .rules) o)) .free
+freeFor d o = (position (positions (assetOf (o .side)) d) (cellFor (d .rules) o)) .free
 
 -- by how much an order's need falls when n lots come off it: for a buy "his own price × n × lot size"
 abbrev pub fall : Rules → List Turnover → Order → ℕ → ℕ
@@ -60,14 +60,14 @@ fall r t o n = need r t o - need r t (withLots o (o .lots - n))
 -- money; the difference returns to the buyer's free money"
 abbrev pub moneySettled : Day → Order → Order → ℕ → ℕ → List ℕ
 moneySettled d b s n sum =
-    change (change (d .money) (placeFor (d .rules) b) (pay (fall (d .rules) (d .turnover) b n) sum))
-    (place (s .participant) (currencyOf (d .rules) (b .security))) (receive sum)
+    change (change (d .money) (cellFor (d .rules) b) (pay (fall (d .rules) (d .turnover) b n) sum))
+    (cell (s .participant) (currencyOf (d .rules) (b .security))) (receive sum)
 
 -- "The seller's blocked pieces become the buyer's free pieces"
 abbrev pub piecesSettled : Day → Order → Order → ℕ → ℕ → List ℕ
 piecesSettled d b s n pieces =
-    change (change (d .pieces) (placeFor (d .rules) s) (pay (fall (d .rules) (d .turnover) s n) pieces))
-    (place (b .participant) (b .security)) (receive pieces)
+    change (change (d .pieces) (cellFor (d .rules) s) (pay (fall (d .rules) (d .turnover) s n) pieces))
+    (cell (b .participant) (b .security)) (receive pieces)
 
 -- "A trade of n lots at price p" between a buy b and a sell s
 unfoldable pub settle : Day → Order → Order → ℕ → ℕ → Day
@@ -89,4 +89,4 @@ total p = p .free + p .blocked
 
 -- a currency's or a security's total over all participants
 abbrev pub totalAt : ℕ → List ℕ → ℕ → ℕ
-totalAt participants l column = sumBelow participants (λ p. total (position l (place p column)))
+totalAt participants l column = sumBelow participants (λ p. total (position l (cell p column)))

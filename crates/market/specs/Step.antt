@@ -3,14 +3,13 @@ use Prim.Native.Nat.{ℕ, zero, suc}
 use mathlib.Core.List.{List, [], _∷_}
 use lib.ListN.{length, take}
 use Rattle.market.specs.declared.Answer.{Answer}
-use Rattle.market.specs.declared.Answer.the-variants.{Done}
 use Rattle.market.specs.declared.Phase.the-variants.{Closed, Closing}
 use Rattle.market.specs.Day.{Position}
-use Rattle.market.specs.Day.{Asset, Day, place, positions, withPositions}
+use Rattle.market.specs.Day.{Asset, Day, cell, positions, withPositions}
 use Rattle.market.specs.Positions.{change, draw, receive}
-use Rattle.market.specs.Waiting.{allLeave, leave, placeIn, placeOf}
+use Rattle.market.specs.Waiting.{allLeave, leave, indexIn, indexOf}
 use Rattle.market.specs.TradeList.{written}
-use Rattle.market.specs.Answers.{Result, refused, zeros}
+use Rattle.market.specs.Answers.{Result, done, refused, zeros}
 use Rattle.market.specs.Calls.{Call, cancel, closingOf, closingOrder, decrease, endSession, entryOf, increase}
 use Rattle.market.specs.Calls.{linked, order, startClosing}
 use Rattle.market.specs.Sound.{sound}
@@ -21,18 +20,14 @@ use Rattle.market.specs.Closing.{closingTerms, endResult, pairsFrom}
 
 -- f on a participant's position
 abbrev pub moved : Asset → Day → ℕ → ℕ → (Position → Position) → Day
-moved x d p column f = withPositions x d (change (positions x d) (place p column) f)
+moved x d p column f = withPositions x d (change (positions x d) (cell p column) f)
 
 -- what each call does where its questions are all answered "yes"
 unfoldable pub effect : Day → Call → Result
 effect d (increase x p column a) = zeros (moved x d p column (receive a))
 effect d (decrease x p column a) = zeros (moved x d p column (draw a))
 effect d (order p m k) = entered d (entryOf d p m) k
-effect d (cancel p code) = record {
-  answer = Done code 0 0 0;
-  day = leave d (placeIn (placeOf p code (d .waiting)));
-  trades = [];
-}
+effect d (cancel p code) = done code 0 0 (leave d (indexIn (indexOf p code (d .waiting)))) []
 effect d (linked p count ms) = groupResult d p (members 1 d p (take count ms))
 effect d startClosing = zeros (allLeave d Closing)
 effect d (closingOrder p side s lots) = placed d (closingOf d p side s lots)

@@ -145,7 +145,7 @@ pub enum Call {
     EndSession,
 }
 
-// Positions stand at participant * 16 + currency or security, free at twice that place and blocked behind it; the first
+// A position's cell is participant * 16 + currency or security, free at twice that cell and blocked behind it; the first
 // `count` orders wait.
 pub struct State {
     pub participants: u64,

@@ -128,8 +128,8 @@ module _ {s : Start} {m k v : List ℕ} {b : OrderBook} {left made : ℕ} (g : G
     chosen : Chosen entry (waitingIn b) (found i p)
     chosen = subst (λ (x : Best). Chosen entry (waitingIn b) x) finds (best-chosen entry (waitingIn b))
 
-    pub going-place : i < b .count
-    going-place = omega (arith, chosen .0, first-length (b .count) (b .orders))
+    pub going-index : i < b .count
+    going-index = omega (arith, chosen .0, first-length (b .count) (b .orders))
 
     step : fill day entry
         ≡ withTrade (tradeOf (s .r) (buyOf entry o) (sellOf entry o) p n)

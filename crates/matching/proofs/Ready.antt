@@ -15,9 +15,9 @@ use Rattle.market.specs.declared.Side.the-variants.{Buy, Sell}
 use Rattle.market.specs.declared.Turnover.{Turnover}
 use Rattle.market.specs.Limits.{maxCodes, maxLot, maxLots, maxPieces, moneyLimit, numbersPerTrade}
 use Rattle.market.specs.declared.Rules.{Rules}
-use Rattle.market.specs.Day.{Asset, Day, Money, Pieces, currencyOf, row, noOrder, orderAt, place, turnoverAt}
+use Rattle.market.specs.Day.{Asset, Day, Money, Pieces, currencyOf, row, noOrder, orderAt, cell, turnoverAt}
 use Rattle.market.specs.Day.{withMoney, withPieces}
-use Rattle.market.specs.Needs.{assetOf, columnOf, limitOf, need, needAt, piecesOf, placeFor, sumFor}
+use Rattle.market.specs.Needs.{assetOf, columnOf, limitOf, need, needAt, piecesOf, cellFor, sumFor}
 use Rattle.market.specs.Positions.{change, counted, counting, fall, moneySettled, pay, piecesSettled, receive, settle}
 use Rattle.market.specs.Waiting.{takeOff}
 use Rattle.market.specs.TradeList.{tradeOf}
@@ -30,7 +30,7 @@ use Rattle.market.proofs.Known.{OrderOk}
 use Rattle.market.proofs.Matching.{Chosen}
 use Rattle.positions.specs.Payable.{Payable}
 use Rattle.invariant.specs.Standing.{Backed, Held, needsOf}
-use Rattle.invariant.proofs.Held.{held-place, held-within}
+use Rattle.invariant.proofs.Held.{held-cell, held-within}
 use Rattle.invariant.proofs.Flight.{buyer-pays, fitting, okE, okO, range}
 use Rattle.matching.specs.Execution.{Countable, Executable, Executes, Settles, moneyAfter}
 use Rattle.matching.specs.Execution.{piecesAfter}
@@ -41,12 +41,12 @@ use Rattle.matching.specs.Written.{tradeAs}
 -- what is needed is blocked, so it can be paid, in money as in pieces
 payable : {r : Rules} {n limit : ℕ} {m : List ℕ} {needs : ℕ → ℕ}
     → Held r n limit m needs → limit ≤ moneyLimit → (q s c fall cost : ℕ)
-    → q < r .participants → s < r .participants → c < n → fall ≤ needs (place q c) → cost ≤ fall
-    → Payable m (place q c) fall cost (place s c)
+    → q < r .participants → s < r .participants → c < n → fall ≤ needs (cell q c) → cost ≤ fall
+    → Payable m (cell q c) fall cost (cell s c)
 payable h top q s c fall cost hq hs hc needed pays = record {
   size = h .positions;
-  payerKnown = held-place h q c hq hc;
-  receiverKnown = held-place h s c hs hc;
+  payerKnown = held-cell h q c hq hc;
+  receiverKnown = held-cell h s c hs hc;
   covered = omega (arith, h .blocked q c hq hc);
   pays = pays;
   payerTotal = omega (arith, held-within h q c hq hc);
@@ -55,9 +55,9 @@ payable h top q s c fall cost hq hs hc needed pays = record {
 
 -- what an order needs where an order of its side blocks
 need-there : (r : Rules) (t : List Turnover) (o : Order) (x : Side) → o .side ≡ x
-    → needAt (assetOf x) r t (place (o .participant) (columnOf x r (o .security))) o ≡ need r t o
+    → needAt (assetOf x) r t (cell (o .participant) (columnOf x r (o .security))) o ≡ need r t o
 need-there r t o x e =
-    subst (λ (y : Side). needAt (assetOf y) r t (place (o .participant) (columnOf y r (o .security))) o ≡ need r t o) e
+    subst (λ (y : Side). needAt (assetOf y) r t (cell (o .participant) (columnOf y r (o .security))) o ≡ need r t o) e
     (need-own r t o)
 
 -- a buy and a sell among the orders that block: x are pending, the others wait
@@ -87,15 +87,15 @@ module _ (x : List Order) (d : Day) (backed : Backed x d) (buy sell : Order) (p 
       let hc = rules .currency s (buyOk .security) in
       let cost = sumFor own p n in
       let pieces = piecesOf own n in
-      let paid : falls ≤ needsOf Money d (x ++ d .waiting) (place (buy .participant) c) =
-      omega (arith, need-there (d .rules) (d .turnover) buy Buy buys, buyer (place (buy .participant) c)) in
-      let given : pieces ≤ needsOf Pieces d (x ++ d .waiting) (place (sell .participant) s) =
-      subst (λ (k : ℕ). pieces ≤ needsOf Pieces d (x ++ d .waiting) (place (sell .participant) k)) same
+      let paid : falls ≤ needsOf Money d (x ++ d .waiting) (cell (buy .participant) c) =
+      omega (arith, need-there (d .rules) (d .turnover) buy Buy buys, buyer (cell (buy .participant) c)) in
+      let given : pieces ≤ needsOf Pieces d (x ++ d .waiting) (cell (sell .participant) s) =
+      subst (λ (k : ℕ). pieces ≤ needsOf Pieces d (x ++ d .waiting) (cell (sell .participant) k)) same
       (omega (
         arith,
         sells-all,
         need-there (d .rules) (d .turnover) sell Sell sells,
-        seller (place (sell .participant) (sell .security)),
+        seller (cell (sell .participant) (sell .security)),
       )) in
       record {
         buyer = omega (arith, buyOk .participant, rules .participants);
@@ -119,17 +119,17 @@ module _ (x : List Order) (d : Day) (backed : Backed x d) (buy sell : Order) (p 
       let c = currencyOf (d .rules) (buy .security) in
       let sum = sumFor own p n in
       let pieces = piecesOf own n in
-      let payer : place (buy .participant) c ≡ placeFor (d .rules) buy = rw buys in
-      let holder : place (sell .participant) (buy .security) ≡ placeFor (d .rules) sell = rw (sells, same) in
+      let payer : cell (buy .participant) c ≡ cellFor (d .rules) buy = rw buys in
+      let holder : cell (sell .participant) (buy .security) ≡ cellFor (d .rules) sell = rw (sells, same) in
       let paid : m ≡ moneySettled d buy sell n sum =
       em
-      ∙ ap (λ (i : ℕ). change (change (d .money) i (pay falls sum)) (place (sell .participant) c) (receive sum)) payer in
+      ∙ ap (λ (i : ℕ). change (change (d .money) i (pay falls sum)) (cell (sell .participant) c) (receive sum)) payer in
       let delivered : k ≡ piecesSettled d buy sell n pieces =
       ek
-      ∙ ap (λ (i : ℕ). change (change (d .pieces) i (pay pieces pieces)) (place (buy .participant) (buy .security))
+      ∙ ap (λ (i : ℕ). change (change (d .pieces) i (pay pieces pieces)) (cell (buy .participant) (buy .security))
       (receive pieces)) holder
-      ∙ ap (λ (x : ℕ). change (change (d .pieces) (placeFor (d .rules) sell) (pay x pieces))
-      (place (buy .participant) (buy .security)) (receive pieces)) sells-all in
+      ∙ ap (λ (x : ℕ). change (change (d .pieces) (cellFor (d .rules) sell) (pay x pieces))
+      (cell (buy .participant) (buy .security)) (receive pieces)) sells-all in
       rw (paid, delivered)
 
 -- the entry e trades n lots with the order at place i, at its price p

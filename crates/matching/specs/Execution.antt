@@ -8,7 +8,7 @@ use Rattle.market.specs.declared.Order.{Order}
 use Rattle.market.specs.declared.Security.{Security}
 use Rattle.market.specs.declared.Turnover.{Turnover}
 use Rattle.market.specs.Limits.{columns, maxCodes, maxLot, maxLots, maxPieces, maxPrice, numbersPerTrade}
-use Rattle.market.specs.Day.{place, withLots}
+use Rattle.market.specs.Day.{cell, withLots}
 use Rattle.market.specs.Needs.{blocks, closingPrice, piecesOf, priceOr, sumFor}
 use Rattle.market.specs.Positions.{change, counting, pay, receive}
 use Rattle.positions.specs.Payable.{Payable}
@@ -39,13 +39,13 @@ pub record Countable (t : Turnover) (pieces sum : ℕ) : Type 0 where
 -- the money after a trade whose sum is this, where the buyer's need falls by fall
 abbrev pub moneyAfter : Security → Order → Order → ℕ → ℕ → List ℕ → List ℕ
 moneyAfter l b s fall sum m =
-    change (change m (place (b .participant) (l .currency)) (pay fall sum)) (place (s .participant) (l .currency))
+    change (change m (cell (b .participant) (l .currency)) (pay fall sum)) (cell (s .participant) (l .currency))
     (receive sum)
 
 -- the pieces after it, of which this many are sold
 abbrev pub piecesAfter : Order → Order → ℕ → List ℕ → List ℕ
 piecesAfter b s sold m =
-    change (change m (place (s .participant) (b .security)) (pay sold sold)) (place (b .participant) (b .security))
+    change (change m (cell (s .participant) (b .security)) (pay sold sold)) (cell (b .participant) (b .security))
     (receive sold)
 
 -- a buy b can pay a sell s the sum, and the sell deliver what is sold
@@ -54,8 +54,8 @@ pub record Settles (l : Security) (b s : Order) (fall sum sold : ℕ) (m k : Lis
   pub seller : s .participant < columns
   pub security : b .security < columns
   pub currency : l .currency < columns
-  pub money : Payable m (place (b .participant) (l .currency)) fall sum (place (s .participant) (l .currency))
-  pub pieces : Payable k (place (s .participant) (b .security)) sold sold (place (b .participant) (b .security))
+  pub money : Payable m (cell (b .participant) (l .currency)) fall sum (cell (s .participant) (l .currency))
+  pub pieces : Payable k (cell (s .participant) (b .security)) sold sold (cell (b .participant) (b .security))
 
 -- they can trade n lots at price p, as trade number i of the lent list v
 pub record Executable (l : Security) (t : Turnover) (b s : Order) (p n i : ℕ) (m k v : List ℕ) : Type 0

@@ -1,8 +1,8 @@
 // Continuous trading: the best counter order, one trade, the fill. Positions and the trade list are lent, the order book
 // goes by value.
+use amounts::cell_of;
 use amounts::need_of;
 use amounts::pieces_of;
-use amounts::place_of;
 use market::Kind;
 use market::Order;
 use market::OrderBook;
@@ -21,7 +21,7 @@ ghost use Rattle.market.specs.Needs.{piecesOf, priceOr, sumFor};
 ghost use Rattle.market.specs.Positions.{counting};
 ghost use Rattle.market.specs.Matching.{better as isBetter, buyOf, fits as doesFit, fitting, fittingLots, ifBuy};
 ghost use Rattle.market.specs.Matching.{opposite as areOpposite, priceOf, reaches as doesReach, sellOf};
-ghost use Rattle.matching.specs.Search.{bestOf, preferLater};
+ghost use Rattle.matching.specs.Search.{bestOf, closer as isCloser, preferLater, rank as rankOf};
 ghost use Rattle.matching.specs.Orders.{FewLots};
 ghost use Rattle.matching.specs.Written.{tradeAs, tradeWritten};
 ghost use Rattle.matching.specs.Execution.{Countable, Executable, Executes, Reckoned, Settles, fallWith, moneyAfter, piecesAfter};
@@ -30,7 +30,10 @@ ghost use Rattle.matching.specs.Filling.{Fillable, Fills};
 // Buy code, sell code, buyer, seller, security, price, lots, sum.
 pub const NUMBERS_PER_TRADE: usize = 8;
 
-// Place and price of the best counter order.
+// The largest number of 64 bits.
+const TOP: u64 = 18446744073709551615;
+
+// Index and price of the best counter order.
 pub enum Found {
     Nothing,
     At(usize, u64),
@@ -126,6 +129,39 @@ pub fn preferred(e: Order, best: Found, o: Order, at: usize) -> Found
     best
 }
 
+// How far a price is from the best one for an entry of this side.
+fn rank(side: Side, price: u64) -> u64
+    ensures { λ r. ⌜ r ≡ rankOf side price ⌝ }
+{
+    match side {
+        Side::Buy => price,
+        Side::Sell => TOP - price,
+    }
+}
+
+// Is the waiting order, whose price has this rank, a counter order with a rank below the bound? Few orders pass the first
+// question.
+fn closer(e: Order, bound: u64, height: u64, o: Order) -> bool
+    ensures { λ r. ⌜ r ≡ isCloser e bound height o ⌝ }
+{
+    if bound <= height {
+        return false;
+    }
+    if e.security != o.security {
+        return false;
+    }
+    let side = e.side;
+    let other = o.side;
+    if !opposite(side, other) {
+        return false;
+    }
+    let kind = o.kind;
+    match kind {
+        Kind::Kept(_) => true,
+        Kind::Closing => false,
+    }
+}
+
 pub fn with_lots(o: Order, lots: u64) -> Order
     ensures { λ r. ⌜ r ≡ withLots o lots ⌝ }
 {
@@ -216,11 +252,11 @@ fn settle(
     ensures { λ _. ⌜ now (money .exit) ≡ moneyAfter row buy sell fall sum (now (money .entry)) ⌝ }
     ensures { λ _. ⌜ now (pieces .exit) ≡ piecesAfter buy sell sold (now (pieces .entry)) ⌝ }
 {
-    let payer = place_of(buy.participant, row.currency);
-    let payee = place_of(sell.participant, row.currency);
+    let payer = cell_of(buy.participant, row.currency);
+    let payee = cell_of(sell.participant, row.currency);
     transfer(money, payer, payee, fall, sum);
-    let holder = place_of(sell.participant, buy.security);
-    let taker = place_of(buy.participant, buy.security);
+    let holder = cell_of(sell.participant, buy.security);
+    let taker = cell_of(buy.participant, buy.security);
     transfer(pieces, holder, taker, sold, sold);
 }
 
@@ -316,21 +352,32 @@ pub fn fill(
     let security = e.security as usize;
     let mut left = e.lots;
     let mut made: usize = 0;
+    // A counter order that fits has a rank below this.
+    let side = e.side;
+    let own = e.kind;
+    let reach = rank(side, price_of(own)) + 1;
     // Matching ends at the first of: the entry is full, or no waiting counter order fits.
     'fill: while 0 < left {
-        // Best price comes first, then lowest code: the list is by rising code.
+        // Best price comes first, then lowest code: the list is by rising code. Two plain numbers hold what is found;
+        // the place is `count` until then.
         let count = book.count;
-        let mut best = Found::Nothing;
+        let mut best = count;
+        let mut bound = reach;
         let mut i: usize = 0;
         let at = 'search: loop {
             if count <= i {
-                let Found::At(at, _) = best else {
+                if best == count {
                     break 'fill;
-                };
-                break 'search at;
+                }
+                break 'search best;
             }
             let o = book.orders[i];
-            best = preferred(e, best, o, i);
+            let kind = o.kind;
+            let height = rank(side, price_of(kind));
+            if closer(e, bound, height, o) {
+                best = i;
+                bound = height;
+            }
             i += 1;
         };
         let o = book.orders[at];

@@ -134,8 +134,8 @@ module _ {r : Rules} {l : Security} {b : OrderBook} {e : Order} {f : TimeInForce
           (priced-limit r (b2 .turnover) rest (h .entryPriced)) (h .top) (λ y j. omega arith))
 
       -- and there is a place for what waits
-      pub place-left : (n : ℕ) → n ≡ leftWaiting f rest → 0 < n → b2 .count < maxWaiting
-      place-left n en h =
+      pub index-left : (n : ℕ) → n ≡ leftWaiting f rest → 0 < n → b2 .count < maxWaiting
+      index-left n en h =
           let count : length (waitingIn b2) ≡ length (filled .day .waiting) = ap (λ (x : Day). length (x .waiting)) (g .day) in
           go f (passed .room) (omega (arith, en)) count (first-length (b2 .count) (b2 .orders)) (few .count)
         where

@@ -11,11 +11,10 @@ use Rattle.market.specs.declared.Order.{Order}
 use Rattle.market.specs.declared.OrderBook.{OrderBook}
 use Rattle.market.specs.declared.Phase.{Phase}
 use Rattle.market.specs.declared.Rules.{Rules}
-use Rattle.market.specs.declared.Security.{Security}
-use Rattle.market.specs.Limits.{maxSecurities, maxWaiting}
+use Rattle.market.specs.Limits.{maxSecurities}
 use Rattle.market.specs.Day.{Day, row, orderAt}
 use Rattle.market.specs.View.{dayOf}
-use Rattle.market.specs.Waiting.{Place, firstPlace, later, leave, nowhere, placeIn, placeOf, somewhere}
+use Rattle.market.specs.Waiting.{Index, firstIndex, later, leave, nowhere, indexIn, indexOf, somewhere}
 use Rattle.market.specs.Calls.{cancel}
 use Rattle.market.specs.Questions.{questions}
 use Rattle.market.specs.Step.{effect}
@@ -27,18 +26,20 @@ use Rattle.invariant.proofs.Sound.{ready-standing}
 use Rattle.matching.specs.Orders.{waitingIn}
 use Rattle.waiting.specs.Leaving.{Holds, Leavable, Leaves}
 use Rattle.waiting.proofs.Leaving.{leaver-known}
-use Rattle.orders.proofs.Answered.{few-lots}
+use Rattle.orders.specs.declared.Found.{Found}
+use Rattle.orders.specs.declared.Found.the-variants.{At, Nothing}
+use Rattle.orders.specs.Finding.{OfSecurity, foundAt}
 
 -- a place that is found is in the list
-abbrev Inside : ℕ → Place → Type 0
+abbrev Inside : ℕ → Index → Type 0
 Inside n nowhere = Unit {0}
 Inside n (somewhere i) = i < n
 
-place-inside : (f : Order → Bool) (w : List Order) → Inside (length w) (firstPlace f w)
-place-inside f [] = tt
-place-inside f (o ∷ w) = go (f o) (firstPlace f w) (place-inside f w)
+cell-inside : (f : Order → Bool) (w : List Order) → Inside (length w) (firstIndex f w)
+cell-inside f [] = tt
+cell-inside f (o ∷ w) = go (f o) (firstIndex f w) (cell-inside f w)
   where
-    go : (k : Bool) (x : Place) → Inside (length w) x → Inside (suc (length w)) (cond k (somewhere 0) (later x))
+    go : (k : Bool) (x : Index) → Inside (length w) x → Inside (suc (length w)) (cond k (somewhere 0) (later x))
     go true x h = omega arith
     go false nowhere h = tt
     go false (somewhere i) h = omega arith
@@ -59,38 +60,42 @@ module _ (r : Rules) (x : Phase) (m k : List ℕ) (b : OrderBook) (p c : ℕ) (r
   cancel-unknown h =
       carries-refuse r x m k b [] (cancel p c) (ready .sound) 4 (omega arith) (rw (le-ltb p (r .participants) h))
 
-  pub cancel-none : p < r .participants → nowhere ≡ placeOf p c (waitingIn b) → declines 16
-  unfolding questions
-  cancel-none h e =
-      carries-refuse r x m k b [] (cancel p c) (ready .sound) 16 (omega arith) (rw (lt-ltb p (r .participants) h, ← e))
+  -- the search ended with f
+  module _ {f : Found} (place : foundAt f ≡ indexOf p c (waitingIn b)) where
+    pub cancel-none : p < r .participants → f ≡ Nothing → declines 16
+    unfolding questions
+    cancel-none h none =
+        let e : nowhere ≡ indexOf p c (waitingIn b) = sym (ap foundAt none) ∙ place in
+        carries-refuse r x m k b [] (cancel p c) (ready .sound) 16 (omega arith) (rw (lt-ltb p (r .participants) h, ← e))
 
-  -- the order waits at place i
-  module _ (i : ℕ) (e : somewhere i ≡ placeOf p c (waitingIn b)) where
-    found-waits : i < b .count
-    unfolding placeOf
-    found-waits =
-        let h : i < length (waitingIn b) =
-        subst (Inside (length (waitingIn b))) (sym e) (place-inside _ (waitingIn b)) in
-        omega (arith, first-length (b .count) (b .orders))
+    -- the order waits at place i; s is its security
+    module _ {i s : ℕ} (own : OfSecurity (b .orders) f) (found : f ≡ At i s) where
+      there : somewhere i ≡ indexOf p c (waitingIn b)
+      there = sym (ap foundAt found) ∙ place
 
-    pub found-inside : i < maxWaiting
-    found-inside = omega (arith, found-waits, (few-lots r x m k b standing) .room)
+      waits : i < b .count
+      unfolding indexOf
+      waits =
+          let h : i < length (waitingIn b) =
+          subst (Inside (length (waitingIn b))) (sym there) (cell-inside _ (waitingIn b)) in
+          omega (arith, first-length (b .count) (b .orders))
 
-    abbrev l : Security
-    l = row r ((orderAt (b .orders) i) .security)
+      its-own : s ≡ (orderAt (b .orders) i) .security
+      its-own = subst (OfSecurity (b .orders)) found own
 
-    holds : Holds r x l b i m k
-    holds = record { waits = found-waits; row = refl; standing = standing }
+      holds : Holds r x (row r s) b i m k
+      holds = record { waits = waits; row = ap (row r) (sym its-own); standing = standing }
 
-    pub found-known : (orderAt (b .orders) i) .security < maxSecurities
-    found-known = leaver-known holds
+      pub found-known : s < maxSecurities
+      found-known = omega (arith, its-own, leaver-known holds)
 
-    pub found-leaves : Leavable l b i m k
-    found-leaves = record { rules = r; phase = x; holds = holds }
+      pub found-leaves : Leavable (row r s) b i m k
+      found-leaves = record { rules = r; phase = x; holds = holds }
 
-    pub cancel-carries : (m′ k′ : List ℕ) (b′ : OrderBook) → p < r .participants → Leaves l b i m k m′ k′ b′
-        → Carries r x m k b [] (cancel p c) m′ k′ [] (record { answer = Done c 0 0 0; phase = x; book = b′ })
-    unfolding questions effect
-    cancel-carries m′ k′ b′ h leaves =
-        carries-accept r x m k b [] (cancel p c) (ready .sound) m′ k′ [] _ (rw (lt-ltb p (r .participants) h, ← e)) refl
-        (leaves r x holds ∙ ap (λ (z : Place). leave d (placeIn z)) e) refl
+      pub cancel-carries : (m′ k′ : List ℕ) (b′ : OrderBook) → p < r .participants
+          → Leaves (row r s) b i m k m′ k′ b′
+          → Carries r x m k b [] (cancel p c) m′ k′ [] (record { answer = Done c 0 0 0; phase = x; book = b′ })
+      unfolding questions effect
+      cancel-carries m′ k′ b′ h leaves =
+          carries-accept r x m k b [] (cancel p c) (ready .sound) m′ k′ [] _ (rw (lt-ltb p (r .participants) h, ← there)) refl
+          (leaves r x holds ∙ ap (λ (z : Index). leave d (indexIn z)) there) refl

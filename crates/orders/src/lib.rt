@@ -25,24 +25,24 @@ use matching::with_lots;
 use waiting::block_need;
 use waiting::covers;
 use waiting::free_need;
-use waiting::left;
+use waiting::leave;
 ghost use mathlib.Core.Path.{_≡_};
 ghost use mathlib.Core.List.{[]};
 ghost use Prim.Native.Nat.{_≤_};
 ghost use Rattle.market.specs.Limits.{maxCodes, maxWaiting};
-ghost use Rattle.market.specs.Waiting.{placeOf};
+ghost use Rattle.market.specs.Waiting.{indexOf};
 ghost use Rattle.market.specs.Calls.{cancel as cancelCall, order as orderCall};
 ghost use Rattle.market.specs.Questions.{firstNo};
 ghost use Rattle.market.specs.Entry.{leftWaiting};
 ghost use Rattle.market.specs.Parts.{Carries, Ready};
 ghost use Rattle.matching.specs.Orders.{FewLots, waitingIn};
 ghost use Rattle.orders.specs.Entering.{Askable, Enterable, Enters, EntryNo, Known, earlyQuestions, entryWith, fillableIn, laterQuestions, roomWith};
-ghost use Rattle.orders.specs.Finding.{foundAt, isOwn as ownOrder};
+ghost use Rattle.orders.specs.Finding.{OfSecurity, foundAt, isOwn as ownOrder};
 
-// Place of a waiting order.
+// Where an order waits in the list, and its security.
 pub enum Found {
     Nothing,
-    At(usize),
+    At(usize, u64),
 }
 
 // The order as it enters, under the next code.
@@ -289,14 +289,15 @@ fn is_own(participant: u64, code: u64, o: Order) -> bool
 // The first waiting order of the participant with that code.
 pub fn find(b: OrderBook, participant: u64, code: u64) -> Found
     requires { ⌜ b .count ≤ maxWaiting ⌝ }
-    ensures { λ r. ⌜ foundAt r ≡ placeOf participant code (waitingIn b) ⌝ }
+    ensures { λ r. ⌜ foundAt r ≡ indexOf participant code (waitingIn b) ⌝ }
+    ensures { λ r. ⌜ OfSecurity (b .orders) r ⌝ }
 {
     let count = b.count;
     let mut i: usize = 0;
     while i < count {
         let o = b.orders[i];
         if is_own(participant, code, o) {
-            return Found::At(i);
+            return Found::At(i, o.security);
         }
         i += 1;
     }
@@ -320,13 +321,12 @@ pub fn cancel(
         return declined(b, phase, 4);
     }
     let found = find(b, participant, code);
-    let Found::At(at) = found else {
+    let Found::At(at, security) = found else {
         return declined(b, phase, 16);
     };
-    let o = b.orders[at];
     let table = rules.table;
-    let row = table[o.security as usize];
-    let book = left(b, at, row, money, pieces);
+    let row = table[security as usize];
+    let book = leave(b, at, row, money, pieces);
     Carried {
         answer: Answer::Done(code, 0, 0, 0),
         phase,

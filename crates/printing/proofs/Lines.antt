@@ -7,16 +7,21 @@ use mathlib.Core.List.{List, [], _∷_, _++_, append-assoc, append-nil}
 use lib.ListN.{getD, length, take, length-append}
 use lib.Seq.{length-take-le, take-suc}
 use Rattle.market.specs.declared.Answer.{Answer}
-use Rattle.printing.specs.Buffer.{lineRoom}
+use Rattle.printing.specs.Buffer.{lineRoom, wordedRoom}
 use Rattle.printing.specs.Lines.{answerLine, comma, decimal, lineEnd}
-use Rattle.printing.specs.Lines.{numberFields, printedLine}
+use Rattle.printing.specs.Lines.{numberFields, printedLine, wordedLine}
 use Rattle.printing.proofs.Decimals.{decimal-length}
 
-fields-length : (ns : List ℕ) → length (numberFields ns) ≤ 21 * length ns
+pub fields-length : (ns : List ℕ) → length (numberFields ns) ≤ 21 * length ns
 unfolding numberFields
 fields-length [] = omega arith
 fields-length (n ∷ ns) =
     omega (arith, length-append (decimal n) (numberFields ns), decimal-length n, fields-length ns)
+
+pub worded-length : (word ns : List ℕ) → length (wordedLine word ns) ≤ wordedRoom (length word) (length ns)
+unfolding wordedLine
+worded-length word ns =
+    simp length-append (omega (arith, fields-length ns))
 
 pub line-length : (letter : ℕ) (ns : List ℕ) → length (printedLine letter ns) ≤ lineRoom (length ns)
 unfolding printedLine

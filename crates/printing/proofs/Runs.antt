@@ -9,7 +9,7 @@ use mathlib.Core.List.{List, [], _∷_, _++_, append-assoc, append-nil}
 use lib.ListN.{drop, length, take, length-append, length-take}
 use lib.Seq.{drop-drop}
 use Rattle.market.specs.Limits.{numbersPerTrade}
-use Rattle.market.specs.Day.{place, position}
+use Rattle.market.specs.Day.{cell, position}
 use Rattle.market.specs.TradeList.{Trade, allNumbers, numbers, written}
 use Rattle.printing.specs.Buffer.{Puts, lineRoom}
 use Rattle.printing.specs.Lines.{columnLines, flatLines, letterT, participantLines}
@@ -87,7 +87,7 @@ trade-run l = record {
 
 -- the lines of a participant
 pub column-run : (letter : ℕ) (l : List ℕ) (p : ℕ)
-    → Run (λ c. positionLine letter p c (position l (place p c))) (columnLines letter l p) (lineRoom 4)
+    → Run (λ c. positionLine letter p c (position l (cell p c))) (columnLines letter l p) (lineRoom 4)
 unfolding columnLines positionLine
 column-run letter l p = record {
   none = λ c. refl;

@@ -6,7 +6,7 @@ use lib.ListN.{drop, take}
 use Rattle.market.specs.declared.Answer.{Answer}
 use Rattle.market.specs.Limits.{numbersPerTrade}
 use Rattle.market.specs.Tests.{_<?_}
-use Rattle.market.specs.Day.{Day, Position, place, position}
+use Rattle.market.specs.Day.{Day, Position, cell, position}
 use Rattle.market.specs.TradeList.{Trade, numbers}
 use Rattle.market.specs.Answers.{numbersOf}
 
@@ -43,6 +43,10 @@ unfoldable pub numberFields : List ℕ → List ℕ
 numberFields [] = []
 numberFields (n ∷ ns) = comma ∷ (decimal n ++ numberFields ns)
 
+-- a word, numbers, the end of the line
+unfoldable pub wordedLine : List ℕ → List ℕ → List ℕ
+wordedLine word ns = word ++ (numberFields ns ++ (lineEnd ∷ []))
+
 -- a letter, numbers, the end of the line
 unfoldable pub printedLine : ℕ → List ℕ → List ℕ
 printedLine letter ns = letter ∷ (numberFields ns ++ (lineEnd ∷ []))
@@ -72,7 +76,7 @@ positionLine letter p column x = printedLine letter (p ∷ column ∷ x .free �
 unfoldable pub columnLines : ℕ → List ℕ → ℕ → ℕ → ℕ → List ℕ
 columnLines letter l p zero c = []
 columnLines letter l p (suc n) c =
-    positionLine letter p c (position l (place p c)) ++ columnLines letter l p n (suc c)
+    positionLine letter p c (position l (cell p c)) ++ columnLines letter l p n (suc c)
 
 -- "by rising participant, then rising second number": n participants from p on, each with all columns
 unfoldable pub participantLines : ℕ → List ℕ → ℕ → ℕ → ℕ → List ℕ

@@ -1,5 +1,5 @@
 // The lines that the day file program prints, put one after another into a lent buffer.
-use amounts::place_of;
+use amounts::cell_of;
 use market::Answer;
 ghost use mathlib.Core.Path.{_≡_};
 ghost use mathlib.Core.List.{[], _∷_};
@@ -7,9 +7,10 @@ ghost use Prim.Native.Nat.{_+_, _*_, _≤_, _<_};
 ghost use lib.ListN.{length};
 ghost use Rattle.market.specs.Limits.{columns as maxColumns, maxCurrencies, maxParticipants, maxSecurities};
 ghost use Rattle.market.specs.Limits.{numbersPerTrade};
-ghost use Rattle.printing.specs.Buffer.{Puts, lineRoom};
+ghost use Rattle.printing.specs.Buffer.{Puts, lineRoom, wordedRoom};
 ghost use Rattle.printing.specs.Lines.{answerLine, columnLines, decimal, flatLines, letterA};
-ghost use Rattle.printing.specs.Lines.{participantLines, positionLine, positionLinesOf, printedLine};
+ghost use Rattle.printing.specs.Lines.{numberFields, participantLines, positionLine, positionLinesOf, printedLine};
+ghost use Rattle.printing.specs.Lines.{wordedLine};
 
 const COMMA: u8 = b',';
 
@@ -46,18 +47,51 @@ fn put_number(out: &mut [u8], at: usize, n: u64) -> usize
     put_byte(out, end, last)
 }
 
-pub fn put_line(out: &mut [u8], at: usize, letter: u8, numbers: &[u64]) -> usize
-    requires { ⌜ at + lineRoom (length (now numbers)) ≤ length (now out) ⌝ }
-    ensures { λ r. ⌜ Puts (now (out .entry)) at (printedLine letter (now (numbers .entry))) (now (out .exit)) r ⌝ }
+// Bytes as they are.
+pub fn put_bytes(out: &mut [u8], at: usize, bytes: &[u8]) -> usize
+    requires { ⌜ at + length (now bytes) ≤ length (now out) ⌝ }
+    ensures { λ r. ⌜ Puts (now (out .entry)) at (now (bytes .entry)) (now (out .exit)) r ⌝ }
 {
-    let mut end = put_byte(out, at, letter);
+    let mut end = at;
+    let mut i: usize = 0;
+    while i < bytes.len() {
+        end = put_byte(out, end, bytes[i]);
+        i += 1;
+    }
+    end
+}
+
+// Numbers, with a comma ahead of each.
+pub fn put_fields(out: &mut [u8], at: usize, numbers: &[u64]) -> usize
+    requires { ⌜ at + 21 * length (now numbers) ≤ length (now out) ⌝ }
+    ensures { λ r. ⌜ Puts (now (out .entry)) at (numberFields (now (numbers .entry))) (now (out .exit)) r ⌝ }
+{
+    let mut end = at;
     let mut i: usize = 0;
     while i < numbers.len() {
         let field = put_byte(out, end, COMMA);
         end = put_number(out, field, numbers[i]);
         i += 1;
     }
+    end
+}
+
+// A word, numbers, the end of the line.
+pub fn put_worded(out: &mut [u8], at: usize, word: &[u8], numbers: &[u64]) -> usize
+    requires { ⌜ at + wordedRoom (length (now word)) (length (now numbers)) ≤ length (now out) ⌝ }
+    ensures { λ r. ⌜ Puts (now (out .entry)) at (wordedLine (now (word .entry)) (now (numbers .entry))) (now (out .exit)) r ⌝ }
+{
+    let fields = put_bytes(out, at, word);
+    let end = put_fields(out, fields, numbers);
     put_byte(out, end, LINE_END)
+}
+
+pub fn put_line(out: &mut [u8], at: usize, letter: u8, numbers: &[u64]) -> usize
+    requires { ⌜ at + lineRoom (length (now numbers)) ≤ length (now out) ⌝ }
+    ensures { λ r. ⌜ Puts (now (out .entry)) at (printedLine letter (now (numbers .entry))) (now (out .exit)) r ⌝ }
+{
+    let word = [letter];
+    put_worded(out, at, &word, numbers)
 }
 
 // The numbers of an answer's line.
@@ -128,7 +162,7 @@ fn put_columns(
     let mut end = at;
     let mut column: u64 = 0;
     while column < columns {
-        let first = 2 * place_of(participant, column);
+        let first = 2 * cell_of(participant, column);
         let free = positions[first];
         let blocked = positions[first + 1];
         end = put_position(out, end, letter, participant, column, free, blocked);

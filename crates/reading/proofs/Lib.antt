@@ -4,3 +4,4 @@ pub mod MemberLines
 pub mod Groups
 pub mod FirstCommand
 pub mod Yields
+pub mod OneAfterAnother

@@ -4,6 +4,7 @@ use mathlib.Core.Path.{_≡_}
 use mathlib.Core.List.{List, [], _∷_}
 use mathlib.Core.Bool.{Bool, true, false}
 use lib.ListN.{drop, length, replicate, set}
+use denote.Ref.{now}
 use Rattle.market.specs.declared.Call.{Call}
 use Rattle.market.specs.declared.Call.the-variants as call
 use Rattle.market.specs.declared.Side.the-variants.{Buy}
@@ -16,7 +17,9 @@ use Rattle.lines.specs.declared.Line.the-variants as line
 use Rattle.lines.specs.Text.{startingAt, upTo}
 use Rattle.lines.specs.Line.{lineSays}
 use Rattle.reading.specs.declared.Members as code
+use Rattle.reading.specs.declared.Reader.{Reader}
 use Rattle.reading.specs.declared.Reading.{Reading}
+use Rattle.reading.specs.declared.Yielded.{Yielded}
 
 -- the byte that ends a line
 abbrev pub lineEnd : ℕ
@@ -147,3 +150,33 @@ pub record Reads (text : List ℕ) (at : ℕ) (r : Reading) : Type 0 where
   pub rest : drop (r .next) text ≡ (yield (drop at text)) .rest
   -- the reader goes forward, and not past the text's end
   pub forward : at < length text → (at < r .next) × (r .next ≤ length text)
+
+-- y is what a reader yields: the first command from its place on, and the reader of the same text after that command
+pub record Next (r : Reader) (y : Yielded) : Type 0 where
+  pub reads : Reads (now (r .text)) (r .at) (y .reading)
+  pub text : y .reader .text ≡ r .text
+  pub at : y .reader .at ≡ y .reading .next
+
+-- the first n commands of a text: each begins where the one before it ended, and after the last there are no more
+unfoldable pub firstCommands : ℕ → List ℕ → List Yield
+firstCommands zero t = []
+firstCommands (suc n) [] = []
+firstCommands (suc n) (x ∷ t) = yield (x ∷ t) ∷ firstCommands n ((yield (x ∷ t)) .rest)
+
+-- the text from a reader's place on
+abbrev pub left : Reader → List ℕ
+left r = drop (r .at) (now (r .text))
+
+-- ys are yielded in turn while text is left: the first by r, each other by the reader that was yielded before it
+abbrev pub InTurn : Reader → List Yielded → Type 0
+InTurn r [] = Unit {0}
+InTurn r (y ∷ ys) = (0 < length (left r)) × Next r y × InTurn (y .reader) ys
+
+-- what was yielded, as a command with the text after it
+abbrev pub answered : Yielded → Yield
+answered y = record {
+  says = y .reading .says;
+  members = y .reading .members;
+  lines = y .reading .lines;
+  rest = left (y .reader);
+}

@@ -13,7 +13,7 @@ ghost use Rattle.market.specs.declared.Call.the-variants as call;
 ghost use Rattle.market.specs.Limits.{maxMembers};
 ghost use Rattle.lines.specs.declared.Line.the-variants as line;
 ghost use Rattle.market.specs.Calls.{noTickets};
-ghost use Rattle.reading.specs.Commands.{Reads, ReadsLine, ReadsMembers, Yields, yieldBy};
+ghost use Rattle.reading.specs.Commands.{Next, Reads, ReadsLine, ReadsMembers, Yields, yieldBy};
 
 const LINE_END: u8 = b'\n';
 
@@ -148,33 +148,34 @@ fn reading_at(text: &[u8], at: usize) -> Reading
     single(says, line.next)
 }
 
-// A line reader over a lent text.
+// A line reader over a lent text, at a place of it.
 pub struct Reader<'a> {
     pub text: &'a [u8],
     pub at: usize,
 }
 
+// A command, and the reader that stands after it.
+pub struct Yielded<'a> {
+    pub reading: Reading,
+    pub reader: Reader<'a>,
+}
+
 impl<'a> Reader<'a> {
-    pub fn new(text: &'a [u8]) -> Reader<'a>
-        ensures { λ r. ⌜ (r .text ≡ text .entry) × (r .at ≡ 0) ⌝ }
+    pub fn new(text: &'a [u8], at: usize) -> Reader<'a>
+        ensures { λ r. ⌜ (r .text ≡ text .entry) × (r .at ≡ at) ⌝ }
     {
-        Reader { text, at: 0 }
+        Reader { text, at }
     }
 
-    // The reader at another place of its text.
-    pub fn moved(self, at: usize) -> Reader<'a>
-        ensures { λ q. ⌜ (q .text ≡ self .entry .text) × (q .at ≡ at) ⌝ }
+    pub fn next(self) -> Yielded<'a>
+        ensures { λ y. ⌜ Next (self .entry) y ⌝ }
     {
-        Reader {
+        let reading = reading_at(self.text, self.at);
+        let reader = Reader {
             text: self.text,
-            at,
-        }
-    }
-
-    pub fn next(self) -> Reading
-        ensures { λ r. ⌜ Reads (now (self .entry .text)) (self .entry .at) r ⌝ }
-    {
-        reading_at(self.text, self.at)
+            at: reading.next,
+        };
+        Yielded { reading, reader }
     }
 }
 
@@ -182,5 +183,6 @@ impl<'a> Reader<'a> {
 pub fn command_at(text: &[u8], at: usize) -> Reading
     ensures { λ r. ⌜ Reads (now (text .entry)) at r ⌝ }
 {
-    Reader::new(text).moved(at).next()
+    let yielded = Reader::new(text, at).next();
+    yielded.reading
 }

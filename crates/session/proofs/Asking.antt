@@ -2,7 +2,7 @@
 use Prim.Native.Nat.{ℕ, _≤_, _<_}
 use native.Mathlib.Nat.{div-le-of-le-mul}
 use native.Mathlib.Omega.{arith}
-use mathlib.Core.Path.{_≡_, refl, sym, _∙_, subst}
+use mathlib.Core.Path.{_≡_, refl, ap, sym, _∙_, subst}
 use mathlib.Core.List.{List, [], _++_}
 use borrow.Author.Tests.{leb-true, ltb-true}
 use Rattle.market.specs.declared.Answer.the-variants.{Done, Refused}
@@ -11,129 +11,157 @@ use Rattle.market.specs.declared.OrderBook.{OrderBook}
 use Rattle.market.specs.declared.Phase.{Phase}
 use Rattle.market.specs.declared.Phase.the-variants.{Closing}
 use Rattle.market.specs.declared.Rules.{Rules}
-use Rattle.market.specs.declared.Security.{Security}
 use Rattle.market.specs.declared.Side.{Side}
 use Rattle.market.specs.declared.Turnover.{Turnover}
-use Rattle.market.specs.Limits.{maxCodes, maxLots, maxPrice, maxSecurities}
+use Rattle.market.specs.Limits.{maxCodes, maxLots, maxSecurities}
 use Rattle.market.specs.Day.{Day, row, turnoverAt}
 use Rattle.market.specs.View.{dayOf}
 use Rattle.market.specs.Needs.{closingPrice}
-use Rattle.market.specs.Calls.{closingOrder}
+use Rattle.market.specs.Calls.{Call, closingOrder}
 use Rattle.market.specs.Questions.{Question, closingQuestions, firstNo, questions}
 use Rattle.market.specs.Entry.{placed}
 use Rattle.market.specs.Step.{effect}
 use Rattle.market.specs.Parts.{Carries, Ready}
 use Rattle.market.proofs.Logic.{within-high}
 use Rattle.market.proofs.Known.{closing-phase}
-use Rattle.market.proofs.Questions.{AllYes, all-yes, hides, passes}
+use Rattle.market.proofs.Questions.{AllYes, all-yes, hides, passes, yes}
 use Rattle.market.proofs.Parts.{carries-accept, carries-refuse}
 use Rattle.market.proofs.View.{first-length}
 use Rattle.invariant.specs.Standing.{Standing}
 use Rattle.invariant.proofs.Sound.{ready-standing}
 use Rattle.waiting.specs.Claims.{Reckonable}
-use Rattle.waiting.proofs.Days.{covered-is, reckons}
-use Rattle.session.specs.Appending.{Admits, AppendedAs, Appendable, Appends, closingWith, earlyClosing}
-use Rattle.session.specs.Appending.{laterClosing}
+use Rattle.waiting.proofs.Days.{covered-is}
+use Rattle.session.specs.Appending.{Admits, AppendedAs, Appendable, Appends, Askable, ClosingNo}
+use Rattle.session.specs.Appending.{closingWith, earlyClosing, laterClosing}
 
-module _ {r : Rules} {x : Phase} {m k : List ℕ} {b : OrderBook} (g : Ready r x m k b) (p : ℕ) (side : Side) (s n : ℕ)
-  where
-    abbrev d : Day
-    d = dayOf r x m k b
+-- the questions of a closing order, of a day of these parts
+asked-in-parts : (r : Rules) (x : Phase) (m k : List ℕ) (b : OrderBook) (p : ℕ) (side : Side) (s n : ℕ)
+    → firstNo (closingQuestions (dayOf r x m k b) p side s n)
+    ≡ firstNo (earlyClosing (r .participants) (r .securities) x p s n
+    ++ laterClosing (row r s) (turnoverAt (b .turnover) s) (b .count) (b .codes) (closingWith (b .codes) p side s n) m k)
+unfolding closingQuestions
+asked-in-parts r x m k b p side s n =
+    rw (first-length (b .count) (b .orders), ← covered-is (dayOf r x m k b) (row r s) (closingWith (b .codes) p side s n) refl)
 
-    abbrev l : Security
-    l = row r s
+-- the first "no", where so many codes are given
+module _ (r : Rules) (x : Phase) (codes p : ℕ) (side : Side) (s n : ℕ) where
+  abbrev early : List Question
+  early = earlyClosing (r .participants) (r .securities) x p s n
 
-    abbrev t : Turnover
-    t = turnoverAt (b .turnover) s
+  abbrev later : List Turnover → (count codes : ℕ) → (m k : List ℕ) → Order → List Question
+  later t count codes m k o = laterClosing (row r s) (turnoverAt t s) count codes o m k
 
-    abbrev o : Order
-    o = closingWith (b .codes) p side s n
+  pub no-early : (t : List Turnover) (count : ℕ) (m k : List ℕ) (i : ℕ) → 0 < i → i ≡ firstNo early
+      → ClosingNo r x t count codes m k p side s n i
+  no-early t count m k i h e = λ b turnover counted given.
+      let rest = later (b .turnover) (b .count) (b .codes) m k (closingWith (b .codes) p side s n) in
+      e ∙ sym (asked-in-parts r x m k b p side s n ∙ hides early rest (omega arith))
 
-    abbrev early : List Question
-    early = earlyClosing (r .participants) (r .securities) x p s n
+  -- 4 to 7 are answered "yes"
+  module _ {t : List Turnover} (ask : Askable r t codes) (none : firstNo early ≡ 0) where
+    yeses : AllYes early
+    yeses = all-yes early tt none
 
-    abbrev later : Order → List Question
-    later y = laterClosing l t (b .count) (b .codes) y m k
+    listed : s < r .securities
+    listed = ltb-true s (r .securities) (yeses .1 .0)
 
-    standing : Standing d
-    standing = ready-standing g
+    pub in-rules : s < maxSecurities
+    in-rules = omega (arith, listed, ask .rules .securities)
 
-    in-parts : firstNo (questions d 0 (closingOrder p side s n)) ≡ firstNo (early ++ later o)
-    unfolding questions closingQuestions
-    in-parts = rw (first-length (b .count) (b .orders), ← covered-is d l o refl)
+    pub reckonable : {o : Order} → o ≡ closingWith codes p side s n → Reckonable (row r s) (turnoverAt t s) o
+    reckonable e =
+        let ok = ask .rules in
+        rw e
+        (record {
+          participant = omega (arith, ltb-true p (r .participants) (yeses .0), ok .participants);
+          security = omega (arith, listed, ok .securities);
+          currency = omega (arith, ok .currency s listed, ok .currencies);
+          lot = ok .lot s listed;
+          limit = ask .prices s listed;
+          top = within-high 1 maxLots n (yeses .1 .1 .1 .0);
+        })
 
-    pub refuse-early : (number : ℕ) → 0 < number → number ≡ firstNo early
-        → Carries r x m k b [] (closingOrder p side s n) m k []
-        (record { answer = Refused number 0; phase = x; book = b })
-    refuse-early number h e =
-        carries-refuse r x m k b [] (closingOrder p side s n) (g .sound) number h
-        (in-parts ∙ hides early (later o) (omega arith) ∙ sym e)
+    pub no-later : {o : Order} → o ≡ closingWith codes p side s n → (count : ℕ) (m k : List ℕ) (i : ℕ)
+        → i ≡ firstNo (later t count codes m k o) → ClosingNo r x t count codes m k p side s n i
+    no-later entry count m k i e = λ b turnover counted given.
+        let rest = later (b .turnover) (b .count) (b .codes) m k (closingWith (b .codes) p side s n) in
+        e
+        ∙ ap (λ (z : Order). firstNo (later t count codes m k z)) entry
+        ∙ ap (λ (z : List Turnover). firstNo (later z count codes m k (closingWith codes p side s n))) (sym turnover)
+        ∙ ap (λ (z : ℕ). firstNo (later (b .turnover) z codes m k (closingWith codes p side s n))) (sym counted)
+        ∙ ap (λ (z : ℕ). firstNo (later (b .turnover) (b .count) z m k (closingWith z p side s n))) (sym given)
+        ∙ sym (asked-in-parts r x m k b p side s n ∙ passes early rest yeses)
 
-    pub given : b .codes ≤ maxCodes
-    given = leb-true (b .codes) maxCodes (standing .limit)
+-- a closing order on the parts of a sound day
+module _ (r : Rules) (x : Phase) (m k : List ℕ) (b : OrderBook) (ready : Ready r x m k b) where
+  abbrev d : Day
+  d = dayOf r x m k b
 
-    module _ (none : firstNo early ≡ 0) where
-      yeses : AllYes early
-      yeses = all-yes early tt none
+  standing : Standing d
+  standing = ready-standing ready
 
-      listed : s < r .securities
-      listed = ltb-true s (r .securities) (yeses .1 .0)
+  pub askable : Askable r (b .turnover) (b .codes)
+  unfolding closingPrice
+  askable = record {
+    rules = standing .backed .rulesOk;
+    codes = leb-true (b .codes) maxCodes (standing .limit);
+    prices = λ s h.
+        div-le-of-le-mul ((turnoverAt (b .turnover) s) .pieces) (omega (arith, (standing .turnovers s h) .high));
+  }
+
+  module _ (p : ℕ) (side : Side) (s n : ℕ) where
+    abbrev call : Call
+    call = closingOrder p side s n
+
+    abbrev asked : List Question
+    asked = closingQuestions d p side s n
+
+    pub refuse : (i : ℕ) → 0 < i → i ≡ firstNo asked
+        → Carries r x m k b [] call m k [] (record { answer = Refused i 0; phase = x; book = b })
+    unfolding questions
+    refuse i h e = carries-refuse r x m k b [] call (ready .sound) i h (sym e)
+
+    -- all are answered "yes"
+    module _ (none : firstNo asked ≡ 0) where
+      yeses-all : AllYes asked
+      unfolding closingQuestions
+      yeses-all = all-yes asked tt none
 
       pub in-table : s < maxSecurities
-      in-table = omega (arith, listed, standing .backed .rulesOk .securities)
+      unfolding closingQuestions
+      in-table =
+          omega (arith, ltb-true s (r .securities) (yes 5 asked yeses-all), standing .backed .rulesOk .securities)
 
-      rest : firstNo (questions d 0 (closingOrder p side s n)) ≡ firstNo (later o)
-      rest = in-parts ∙ passes early (later o) yeses
+      closes : x ≡ Closing
+      unfolding closingQuestions
+      closes = closing-phase x (yes 6 asked yeses-all)
 
-      module _ {y : Order} (ey : y ≡ o) where
-        pub reckonable : Reckonable l t y
-        reckonable =
-            rw ey
-            (reckons d l o refl [] (standing .backed) (ltb-true p (r .participants) (yeses .0)) listed price
-            (within-high 1 maxLots n (yeses .1 .1 .1 .0)))
-          where
-            price : closingPrice t ≤ maxPrice
-            price = unfold closingPrice in (div-le-of-le-mul (t .pieces) (omega (arith, (standing .turnovers s listed) .high)))
+      module _ {o : Order} (entry : o ≡ closingWith (b .codes) p side s n) where
+        admits : Admits r (row r s) b o m k
+        admits =
+            rw entry
+            (record {
+              row = refl;
+              standing = subst (λ (z : Phase). Standing (dayOf r z m k b)) closes standing;
+              participant = p;
+              side = side;
+              security = s;
+              lots = n;
+              entry = refl;
+              asked = subst (λ (z : Phase). firstNo (closingQuestions (dayOf r z m k b) p side s n) ≡ 0) closes none;
+            })
 
-        pub refuse-later : (number : ℕ) → 0 < number → number ≡ firstNo (later y)
-            → Carries r x m k b [] (closingOrder p side s n) m k []
-            (record { answer = Refused number 0; phase = x; book = b })
-        refuse-later number h e =
-            carries-refuse r x m k b [] (closingOrder p side s n) (g .sound) number h (rest ∙ sym (rw ey at e))
+        pub appendable : Appendable (row r s) b o m k
+        appendable = record { rules = r; admits = admits }
 
-        module _ (clear : firstNo (later y) ≡ 0) where
-          shut : x ≡ Closing
-          shut = closing-phase x (yeses .1 .1 .0)
-
-          asked : firstNo (questions d 0 (closingOrder p side s n)) ≡ 0
-          asked = rest ∙ (rw ey at clear)
-
-          admits : Admits r l b y m k
-          unfolding questions
-          admits =
-              rw ey
-              (record {
-                row = refl;
-                standing = subst (λ (z : Phase). Standing (dayOf r z m k b)) shut standing;
-                participant = p;
-                side = side;
-                security = s;
-                lots = n;
-                entry = refl;
-                asked =
-                    subst (λ (z : Phase). firstNo (closingQuestions (dayOf r z m k b) p side s n) ≡ 0) shut asked;
-              })
-
-          pub appendable : Appendable l b y m k
-          appendable = record { rules = r; admits = admits }
-
-          pub appended : {m′ k′ : List ℕ} (b′ : OrderBook) → Appends l b y m k m′ k′ b′
-              → Carries r x m k b [] (closingOrder p side s n) m′ k′ []
-              (record { answer = Done (b′ .codes) (b′ .filled) (b′ .left) (b′ .trades); phase = x; book = b′ })
-          unfolding effect placed
-          appended {m′} {k′} b′ done =
-              let z : AppendedAs (placed (dayOf r Closing m k b) o) r m′ k′ b′ =
-              subst (λ (w : Order). AppendedAs (placed (dayOf r Closing m k b) w) r m′ k′ b′) ey (done r admits) in
-              let same : dayOf r x m′ k′ b′ ≡ (placed d o) .day =
-              subst (λ (q : Phase). dayOf r q m′ k′ b′ ≡ (placed (dayOf r q m k b) o) .day) (sym shut) (z .day) in
-              carries-accept r x m k b [] (closingOrder p side s n) (g .sound) m′ k′ [] _ asked (z .answer) same refl
+        pub appended : {m′ k′ : List ℕ} (b′ : OrderBook) → Appends (row r s) b o m k m′ k′ b′
+            → Carries r x m k b [] call m′ k′ []
+            (record { answer = Done (b′ .codes) (b′ .filled) (b′ .left) (b′ .trades); phase = x; book = b′ })
+        unfolding questions effect placed
+        appended {m′} {k′} b′ done =
+            let e = closingWith (b .codes) p side s n in
+            let z : AppendedAs (placed (dayOf r Closing m k b) e) r m′ k′ b′ =
+            subst (λ (w : Order). AppendedAs (placed (dayOf r Closing m k b) w) r m′ k′ b′) entry (done r admits) in
+            let same : dayOf r x m′ k′ b′ ≡ (placed d e) .day =
+            subst (λ (q : Phase). dayOf r q m′ k′ b′ ≡ (placed (dayOf r q m k b) e) .day) (sym closes) (z .day) in
+            carries-accept r x m k b [] call (ready .sound) m′ k′ [] _ none (z .answer) same refl

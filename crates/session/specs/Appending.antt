@@ -1,5 +1,5 @@
 -- A closing order on the parts of a day: its questions, what it asks, and what it does.
-use Prim.Native.Nat.{ℕ, _+_}
+use Prim.Native.Nat.{ℕ, _+_, _≤_, _<_}
 use mathlib.Core.Path.{_≡_}
 use mathlib.Core.List.{List, [], _∷_}
 use Rattle.market.specs.declared.Answer.the-variants.{Done}
@@ -11,16 +11,18 @@ use Rattle.market.specs.declared.Phase.the-variants.{Closing}
 use Rattle.market.specs.declared.Security.{Security}
 use Rattle.market.specs.declared.Side.{Side}
 use Rattle.market.specs.declared.Turnover.{Turnover}
-use Rattle.market.specs.Limits.{maxCodes, maxWaiting}
+use Rattle.market.specs.Limits.{maxCodes, maxPrice, maxWaiting}
 use Rattle.market.specs.Tests.{_<?_, known}
 use Rattle.market.specs.declared.Rules.{Rules}
-use Rattle.market.specs.Day.{row}
+use Rattle.market.specs.Day.{row, turnoverAt}
 use Rattle.market.specs.View.{dayOf}
+use Rattle.market.specs.Needs.{closingPrice}
 use Rattle.market.specs.Sound.{hasTraded, isClosing, lotsSound}
 use Rattle.market.specs.Answers.{Result}
 use Rattle.market.specs.Calls.{closingOf}
 use Rattle.market.specs.Questions.{Question, ask, closingQuestions, firstNo}
 use Rattle.market.specs.Entry.{placed}
+use Rattle.market.proofs.Known.{RulesOk}
 use Rattle.invariant.specs.Standing.{Standing}
 use Rattle.waiting.specs.Claims.{coveredBy}
 
@@ -50,6 +52,18 @@ laterClosing l t count codes o m k =
     ask 12 (count <? maxWaiting) ∷
     ask 13 (codes <? maxCodes) ∷
     ask 14 (coveredBy l t o m k) ∷ []
+
+-- these can be asked: the rules are sound, the codes given and the closing prices within their limits
+pub record Askable (r : Rules) (t : List Turnover) (given : ℕ) : Type 0 where
+  pub rules : RulesOk r
+  pub codes : given ≤ maxCodes
+  pub prices : (s : ℕ) → s < r .securities → closingPrice (turnoverAt t s) ≤ maxPrice
+
+-- i is the first "no" of a closing order, on every day whose order book has this turnover, count and codes
+abbrev pub ClosingNo : Rules → Phase → List Turnover → (count codes : ℕ) → (m k : List ℕ) → ℕ → Side → (s n i : ℕ) → Type 0
+ClosingNo r x t count codes m k p side s n i =
+    (b : OrderBook) → b .turnover ≡ t → b .count ≡ count → b .codes ≡ codes
+    → i ≡ firstNo (closingQuestions (dayOf r x m k b) p side s n)
 
 -- under rules r, l is the row of the order's security, the day is sound, and o is a closing order that passed its questions
 pub record Admits (r : Rules) (l : Security) (b : OrderBook) (o : Order) (m k : List ℕ) : Type 0 where

@@ -23,8 +23,8 @@ use Rattle.invariant.proofs.Pairing.{Fair}
 use Rattle.matching.proofs.Writing.{writtenFrom}
 
 -- how many places an order keeps: none where its lots are used up
-abbrev pub places : Order → ℕ
-places o = cond (0 <? o .lots) 1 0
+abbrev pub slots : Order → ℕ
+slots o = cond (0 <? o .lots) 1 0
 
 -- under rules r, in phase x, l is the row of security s, the day is sound, and the terms t are fair to its buys
 pub record Meets (r : Rules) (x : Phase) (l : Security) (s : ℕ) (t : Terms) (b : OrderBook) (m k : List ℕ) : Type 0 where

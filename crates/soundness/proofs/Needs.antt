@@ -1,4 +1,4 @@
--- Laws of needs added up place by place.
+-- Laws of needs added up cell by cell.
 use Prim.Native.Nat.{ℕ, _+_, _*_, _≤_, _<_}
 use native.Mathlib.Omega.{arith}
 use native.Mathlib.Nat.{le-trans, mul-le-mul}
@@ -15,20 +15,20 @@ use Rattle.market.specs.declared.Side.{Side}
 use Rattle.market.specs.declared.Side.the-variants.{Buy, Sell}
 use Rattle.market.specs.declared.State.{State}
 use Rattle.market.specs.declared.Turnover.{Turnover}
-use Rattle.market.specs.Limits.{columns, maxLot, maxLots, maxPieces, maxPrice, places}
+use Rattle.market.specs.Limits.{columns, maxLot, maxLots, maxPieces, maxPrice, cells}
 use Rattle.market.specs.Tests.{_=?_, allBelow, sumOf}
 use Rattle.market.specs.declared.Rules.{Rules}
 use Rattle.market.specs.Day.{Asset, Day, Money, Pieces, columnsOf, currencyOf, ifMoney, row}
 use Rattle.market.specs.View.{firstOrders}
-use Rattle.market.specs.Day.{noSecurity, orderAt, place, position, positions, totalLimit}
+use Rattle.market.specs.Day.{noSecurity, orderAt, cell, position, positions, totalLimit}
 use Rattle.market.specs.View.{view}
 use Rattle.market.specs.Sound.{blockedSound, needsAt, orderSound, totalsSound}
 use Rattle.market.specs.Needs.{blocks, columnOf, limitOf, need, needAt, ofAsset, only, piecesOf, sumFor}
 use Rattle.market.proofs.Amounts.{only-same}
 use Rattle.market.proofs.Lists.{same-all}
 use Rattle.market.proofs.Logic.{and-true, below-all, below-intro, both}
-use Rattle.soundness.specs.Parts.{Checked, HoldsNeeds, assetSound, coveredAt, columnSound, needPlace}
-use Rattle.soundness.specs.Parts.{lentDay, needPlaceFor, waitingSound}
+use Rattle.soundness.specs.Parts.{Checked, HoldsNeeds, assetSound, coveredAt, columnSound, needCell}
+use Rattle.soundness.specs.Parts.{lentDay, needCellFor, waitingSound}
 use Rattle.soundness.proofs.Loops.{same, waiting-at, waiting-end}
 use Rattle.soundness.proofs.Parts.{Reckonable, ordersOf}
 
@@ -45,7 +45,7 @@ blocks-top Sell l price lots a b c = le-trans (mul-le-mul c a) (lit≤ tt)
 pub need-top : (r : Rules) (t : List Turnover) (o : Order) → Reckonable r t o → need r t o ≤ maxNeed
 need-top r t o f = blocks-top (o .side) (row r (o .security)) (limitOf t o) (o .lots) (f .lot) (f .price) (f .lots)
 
--- amounts at one place
+-- amounts in one cell
 only-apart : (i j a : ℕ) → (i ≡ j → ⊥) → only i j a ≡ 0
 unfolding only
 only-apart i j a h = rw (ne-eqb i j h)
@@ -66,27 +66,27 @@ only-shift k i j a = go (eqb i j) refl
     go false q =
         only-apart (k + i) (k + j) a (λ e. eqb-false i j q (omega arith)) ∙ sym (only-apart i j a (eqb-false i j q))
 
--- what an order needs of an asset at a place stands where the list has that place
-at-place : (x : Asset) (side : Side) (r : Rules) (p s j a : ℕ) → place p (columnOf side r s) < places → j < places
-    → ofAsset x side (only (place p (columnOf side r s)) j a)
-    ≡ only (needPlaceFor side p (currencyOf r s) s) (needPlace x j) a
-at-place Money Buy r p s j a hp hj = sym (only-shift 0 (place p (currencyOf r s)) j a)
-at-place Money Sell r p s j a hp hj = sym (only-apart (places + place p s) (0 + j) a (λ e. omega arith))
-at-place Pieces Buy r p s j a hp hj =
-    sym (only-apart (0 + place p (currencyOf r s)) (places + j) a (λ e. omega arith))
-at-place Pieces Sell r p s j a hp hj = sym (only-shift places (place p s) j a)
+-- what an order needs of an asset in a cell stands where the list has that cell
+at-cell : (x : Asset) (side : Side) (r : Rules) (p s j a : ℕ) → cell p (columnOf side r s) < cells → j < cells
+    → ofAsset x side (only (cell p (columnOf side r s)) j a)
+    ≡ only (needCellFor side p (currencyOf r s) s) (needCell x j) a
+at-cell Money Buy r p s j a hp hj = sym (only-shift 0 (cell p (currencyOf r s)) j a)
+at-cell Money Sell r p s j a hp hj = sym (only-apart (cells + cell p s) (0 + j) a (λ e. omega arith))
+at-cell Pieces Buy r p s j a hp hj =
+    sym (only-apart (0 + cell p (currencyOf r s)) (cells + j) a (λ e. omega arith))
+at-cell Pieces Sell r p s j a hp hj = sym (only-shift cells (cell p s) j a)
 
 column-inside : (side : Side) (r : Rules) (t : List Turnover) (o : Order) → Reckonable r t o
-    → place (o .participant) (columnOf side r (o .security)) < places
+    → cell (o .participant) (columnOf side r (o .security)) < cells
 column-inside Buy r t o f = omega (arith, f .participant, f .currency)
 column-inside Sell r t o f = omega (arith, f .participant, f .security)
 
-pub place-inside : (side : Side) (r : Rules) (t : List Turnover) (o : Order) → Reckonable r t o
-    → needPlaceFor side (o .participant) (currencyOf r (o .security)) (o .security) < places + places
-place-inside Buy r t o f = omega (arith, f .participant, f .currency)
-place-inside Sell r t o f = omega (arith, f .participant, f .security)
+pub cell-inside : (side : Side) (r : Rules) (t : List Turnover) (o : Order) → Reckonable r t o
+    → needCellFor side (o .participant) (currencyOf r (o .security)) (o .security) < cells + cells
+cell-inside Buy r t o f = omega (arith, f .participant, f .currency)
+cell-inside Sell r t o f = omega (arith, f .participant, f .security)
 
--- an amount more at one place of a list
+-- an amount more in one cell of a list
 put : (l : List ℕ) (at v k : ℕ) → at < length l → getD (set l at (getD l at 0 + v)) k 0 ≡ getD l k 0 + only at k v
 put l at v k h = go (eqb at k) refl
   where
@@ -101,30 +101,30 @@ put l at v k h = go (eqb at k) refl
 -- the needs of the waiting orders before place i are in the list
 pub record Added (r : Rules) (t : List Turnover) (n : ℕ) (w : List Order) (i : ℕ) (l : List ℕ) : Type 0 where
   pub within : i ≤ n
-  pub size : length l ≡ places + places
+  pub size : length l ≡ cells + cells
   pub small : (k : ℕ) → getD l k 0 ≤ i * maxNeed
-  pub exact : (x : Asset) (j : ℕ) → j < places
-      → getD l (needPlace x j) 0 + sumOf (needAt x r t j) (drop i (firstOrders n w))
+  pub exact : (x : Asset) (j : ℕ) → j < cells
+      → getD l (needCell x j) 0 + sumOf (needAt x r t j) (drop i (firstOrders n w))
       ≡ sumOf (needAt x r t j) (firstOrders n w)
 
 pub added-none : (r : Rules) (t : List Turnover) (n : ℕ) (w : List Order) (l : List ℕ)
-    → l ≡ replicate (places + places) 0 → Added r t n w 0 l
+    → l ≡ replicate (cells + cells) 0 → Added r t n w 0 l
 added-none r t n w l e = rw e (record {
   within = omega arith;
   size = refl;
-  small = λ k. omega (arith, same-all {A = ℕ} (places + places) k 0);
-  exact = λ x j h. omega (arith, same-all {A = ℕ} (places + places) (needPlace x j) 0);
+  small = λ k. omega (arith, same-all {A = ℕ} (cells + cells) k 0);
+  exact = λ x j h. omega (arith, same-all {A = ℕ} (cells + cells) (needCell x j) 0);
 })
 
 module _ (r : Rules) (t : List Turnover) (n : ℕ) (w : List Order) (i : ℕ) (l : List ℕ) (a : Added r t n w i l) where
   pub added-next : (at v : ℕ) → i < n → Reckonable r t (orderAt w i)
-      → at ≡ needPlaceFor ((orderAt w i) .side) ((orderAt w i) .participant)
+      → at ≡ needCellFor ((orderAt w i) .side) ((orderAt w i) .participant)
       (currencyOf r ((orderAt w i) .security)) ((orderAt w i) .security)
       → v ≡ need r t (orderAt w i) → Added r t n w (i + 1) (set l at (getD l at 0 + v))
   unfolding needAt
   added-next at v h f ea ev =
       let o = orderAt w i in
-      let inside : at < length l = omega (arith, a .size, place-inside (o .side) r t o f) in
+      let inside : at < length l = omega (arith, a .size, cell-inside (o .side) r t o f) in
       let top = need-top r t o f in
       record {
         within = omega arith;
@@ -132,21 +132,21 @@ module _ (r : Rules) (t : List Turnover) (n : ℕ) (w : List Order) (i : ℕ) (l
         small = λ k. omega (arith, put l at v k inside, a .small k, only-top at k v);
         exact = λ x j hj.
             let b = a .exact x j hj in
-            let p = put l at v (needPlace x j) inside in
-            let q : needAt x r t j o ≡ only at (needPlace x j) v =
-            rw (ea, ev) (at-place x (o .side) r (o .participant) (o .security) j (need r t o)
+            let p = put l at v (needCell x j) inside in
+            let q : needAt x r t j o ≡ only at (needCell x j) v =
+            rw (ea, ev) (at-cell x (o .side) r (o .participant) (o .security) j (need r t o)
             (column-inside (o .side) r t o f) hj) in
             omega (arith, rw (waiting-at n w i h) at b);
       }
 
-  pub added-all : n ≤ i → (x : Asset) (j : ℕ) → j < places
-      → getD l (needPlace x j) 0 ≡ sumOf (needAt x r t j) (firstOrders n w)
+  pub added-all : n ≤ i → (x : Asset) (j : ℕ) → j < cells
+      → getD l (needCell x j) 0 ≡ sumOf (needAt x r t j) (firstOrders n w)
   added-all h x j hj = let b = a .exact x j hj in omega (arith, rw (waiting-end n w i h) at b)
 
 -- what is blocked is tested against the list, column by column
 pub columns-same : (x : Asset) (d : Day) (l : List ℕ) → HoldsNeeds d l → d .rules .participants ≤ columns
     → columnsOf x (d .rules) ≤ columns
-    → allBelow (columnsOf x (d .rules)) (columnSound (d .rules .participants) (totalLimit x) (ifMoney x 0 places)
+    → allBelow (columnsOf x (d .rules)) (columnSound (d .rules .participants) (totalLimit x) (ifMoney x 0 cells)
     (positions x d) l) ≡ assetSound x d
 unfolding assetSound blockedSound totalsSound columnSound
 columns-same x d l h hp hc = same _ _ there back
@@ -157,18 +157,18 @@ columns-same x d l h hp hc = same _ _ there back
     w : ℕ
     w = columnsOf x (d .rules)
 
-    needed : (p c : ℕ) → p < n → c < w → coveredAt (ifMoney x 0 places) (positions x d) l (place p c)
-        ≡ (position (positions x d) (place p c)) .blocked =? needsAt x d (place p c)
-    needed p c i j = ap (λ (a : ℕ). (position (positions x d) (place p c)) .blocked =? a) (h x (place p c) (omega arith))
+    needed : (p c : ℕ) → p < n → c < w → coveredAt (ifMoney x 0 cells) (positions x d) l (cell p c)
+        ≡ (position (positions x d) (cell p c)) .blocked =? needsAt x d (cell p c)
+    needed p c i j = ap (λ (a : ℕ). (position (positions x d) (cell p c)) .blocked =? a) (h x (cell p c) (omega arith))
 
-    there : allBelow w (columnSound n (totalLimit x) (ifMoney x 0 places) (positions x d) l) ≡ true → assetSound x d ≡ true
+    there : allBelow w (columnSound n (totalLimit x) (ifMoney x 0 cells) (positions x d) l) ≡ true → assetSound x d ≡ true
     there e =
         both
         (below-intro n _ (λ p i. below-intro w _
         (λ c j. sym (needed p c i j) ∙ below-all n _ ((and-true (below-all w _ e c j)) .0) p i)))
         (below-intro w _ (λ c j. (and-true (below-all w _ e c j)) .1))
 
-    back : assetSound x d ≡ true → allBelow w (columnSound n (totalLimit x) (ifMoney x 0 places) (positions x d) l) ≡ true
+    back : assetSound x d ≡ true → allBelow w (columnSound n (totalLimit x) (ifMoney x 0 cells) (positions x d) l) ≡ true
     back e =
         let a = and-true e in
         below-intro w _ (λ c j. both

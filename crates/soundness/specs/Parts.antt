@@ -1,4 +1,4 @@
--- "Sound means" in the parts that the code asks for in turn, and the places where it adds needs up.
+-- "Sound means" in the parts that the code asks for in turn, and the cells where it adds needs up.
 use Prim.Native.Nat.{ℕ, _+_, _<_}
 use mathlib.Core.List.{List, []}
 use mathlib.Core.Path.{_≡_}
@@ -11,9 +11,9 @@ use Rattle.market.specs.declared.Side.{Side}
 use Rattle.market.specs.declared.Side.the-variants.{Buy, Sell}
 use Rattle.market.specs.declared.State.{State}
 use Rattle.market.specs.declared.Turnover.{Turnover}
-use Rattle.market.specs.Limits.{maxCurrencies, maxWaiting, places}
+use Rattle.market.specs.Limits.{maxCurrencies, maxWaiting, cells}
 use Rattle.market.specs.Tests.{_=?_, _and_, _≤?_, allBelow, allOf}
-use Rattle.market.specs.Day.{Asset, Day, Money, Pieces, ifMoney, row, place, position, turnoverAt}
+use Rattle.market.specs.Day.{Asset, Day, Money, Pieces, ifMoney, row, cell, position, turnoverAt}
 use Rattle.market.specs.View.{firstOrders}
 use Rattle.market.specs.Day.{withMoney, withPieces}
 use Rattle.market.specs.View.{view}
@@ -42,27 +42,27 @@ waitingSound d = allOf (orderSound d) (d .waiting) and rising 0 (given d) (d .wa
 unfoldable pub assetSound : Asset → Day → Bool
 assetSound x d = blockedSound x d and totalsSound x d
 
--- at place j what is blocked is what is needed; needs stand from place `first` of their list on
+-- in cell j what is blocked is what is needed; needs stand from cell `first` of their list on
 abbrev pub coveredAt : ℕ → List ℕ → List ℕ → ℕ → Bool
 coveredAt first l needs j = (position l j) .blocked =? getD needs (first + j) 0
 
 -- one column of positions: what is blocked, and the total
 unfoldable pub columnSound : ℕ → ℕ → ℕ → List ℕ → List ℕ → ℕ → Bool
 columnSound participants limit first l needs c =
-    allBelow participants (λ p. coveredAt first l needs (place p c)) and totalAt participants l c ≤? limit
+    allBelow participants (λ p. coveredAt first l needs (cell p c)) and totalAt participants l c ≤? limit
 
--- needs stand in one list: money at its place, pieces 256 places further on
-abbrev pub needPlace : Asset → ℕ → ℕ
-needPlace x j = ifMoney x 0 places + j
+-- needs stand in one list: money at its cell, pieces 256 cells further on
+abbrev pub needCell : Asset → ℕ → ℕ
+needCell x j = ifMoney x 0 cells + j
 
 -- where an order's need is added
-abbrev pub needPlaceFor : Side → ℕ → ℕ → ℕ → ℕ
-needPlaceFor Buy participant currency security = needPlace Money (place participant currency)
-needPlaceFor Sell participant currency security = needPlace Pieces (place participant security)
+abbrev pub needCellFor : Side → ℕ → ℕ → ℕ → ℕ
+needCellFor Buy participant currency security = needCell Money (cell participant currency)
+needCellFor Sell participant currency security = needCell Pieces (cell participant security)
 
--- the list holds what the waiting orders need of each asset at each place
+-- the list holds what the waiting orders need of each asset in each cell
 abbrev pub HoldsNeeds : Day → List ℕ → Type 0
-HoldsNeeds d l = (x : Asset) (j : ℕ) → j < places → getD l (needPlace x j) 0 ≡ needsAt x d j
+HoldsNeeds d l = (x : Asset) (j : ℕ) → j < cells → getD l (needCell x j) 0 ≡ needsAt x d j
 
 -- the day as far as its orders are asked about: neither its positions count, nor how many of the currencies it has
 abbrev pub ordersDay : ℕ → ℕ → ℕ → Phase → ℕ → List Security → List Turnover → List Order → Day

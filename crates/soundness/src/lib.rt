@@ -1,6 +1,6 @@
 // Is a state sound? Asked of any values at all, before anything is reckoned from them.
+use amounts::cell_of;
 use amounts::need_of;
-use amounts::place_of;
 use amounts::price_sound;
 use amounts::within;
 use market::Kind;
@@ -28,15 +28,15 @@ ghost use mathlib.Core.Path.{_≡_};
 ghost use mathlib.Core.Bool.{true};
 ghost use Prim.Native.Nat.{_+_, _<_, _≤_};
 ghost use lib.ListN.{getD, replicate};
-ghost use Rattle.market.specs.Limits.{columns as allColumns, maxCodes, maxParticipants, maxSecurities, places};
+ghost use Rattle.market.specs.Limits.{columns as allColumns, maxCodes, maxParticipants, maxSecurities, cells};
 ghost use Rattle.market.specs.Tests.{_and_, allBelow, known};
 ghost use Rattle.market.specs.Day.{noSecurity, turnoverAt};
 ghost use Rattle.market.specs.View.{view};
 ghost use Rattle.market.specs.Sound.{countsSound, kindSound, rowSound, lotsSound, sound, turnoverSound};
-ghost use Rattle.soundness.specs.Parts.{Checked, columnSound, lentDay, needPlaceFor, orderly, ordersDay};
+ghost use Rattle.soundness.specs.Parts.{Checked, columnSound, lentDay, needCellFor, orderly, ordersDay};
 
-// Needs of pieces stand this many places behind those of money.
-const PLACES: usize = 256;
+// Needs of pieces stand this many cells behind those of money.
+const CELLS: usize = 256;
 
 pub fn counts_sound(participants: u64, currencies: u64, securities: u64) -> bool
     ensures { λ r. ⌜ r ≡ countsSound participants currencies securities ⌝ }
@@ -151,18 +151,18 @@ fn order_sound(
 }
 
 // Where an order's need is added: a buy's money, or a sell's pieces.
-fn need_place(side: Side, participant: u64, currency: u64, security: u64) -> usize
+fn need_cell(side: Side, participant: u64, currency: u64, security: u64) -> usize
     requires { ⌜ (participant < allColumns) × (currency < allColumns) × (security < allColumns) ⌝ }
-    ensures { λ r. ⌜ r ≡ needPlaceFor side participant currency security ⌝ }
+    ensures { λ r. ⌜ r ≡ needCellFor side participant currency security ⌝ }
 {
     match side {
-        Side::Buy => place_of(participant, currency),
-        Side::Sell => PLACES + place_of(participant, security),
+        Side::Buy => cell_of(participant, currency),
+        Side::Sell => CELLS + cell_of(participant, security),
     }
 }
 
 // Is each waiting order sound, and do their codes rise from 1, up to the codes given at most? What each needs is added at
-// its place in the same pass, so that the orders are copied and read once.
+// its cell in the same pass, so that the orders are copied and read once.
 fn orders_sound(
     participants: u64,
     securities: u64,
@@ -174,7 +174,7 @@ fn orders_sound(
     orders: [Order; 128],
     needs: &mut [u64; 512],
 ) -> bool
-    requires { ⌜ (orderly (ordersDay participants securities codes phase count table turnovers orders) ≡ true) × (now needs ≡ replicate (places + places) 0) ⌝ }
+    requires { ⌜ (orderly (ordersDay participants securities codes phase count table turnovers orders) ≡ true) × (now needs ≡ replicate (cells + cells) 0) ⌝ }
     ensures { λ r. ⌜ Checked (ordersDay participants securities codes phase count table turnovers orders) r (now (needs .exit)) ⌝ }
 {
     let mut last: u64 = 0;
@@ -194,7 +194,7 @@ fn orders_sound(
             return false;
         }
         let side = order.side;
-        let at = need_place(side, order.participant, row.currency, order.security);
+        let at = need_cell(side, order.participant, row.currency, order.security);
         needs[at] = needs[at] + need_of(row, turnover, order);
         last = order.code;
         i += 1;
@@ -212,14 +212,14 @@ fn positions_sound<'a>(
     positions: &'a [u64; 512],
     needs: &'a [u64; 512],
 ) -> bool
-    requires { ⌜ (0 < participants) × (participants ≤ maxParticipants) × (columns ≤ allColumns) × (first ≤ places) ⌝ }
+    requires { ⌜ (0 < participants) × (participants ≤ maxParticipants) × (columns ≤ allColumns) × (first ≤ cells) ⌝ }
     ensures { λ r. ⌜ r ≡ allBelow columns (columnSound participants limit first (now (positions .entry)) (now (needs .entry))) ⌝ }
 {
     let mut total: u64 = 0;
     let mut p: u64 = 0;
     let mut column: u64 = 0;
     while column < columns {
-        let at = place_of(p, column);
+        let at = cell_of(p, column);
         let free = positions[2 * at];
         let blocked = positions[2 * at + 1];
         if blocked != needs[first + at] {
@@ -298,7 +298,7 @@ pub fn lent_sound<'a>(s: State, money: &'a [u64; 512], pieces: &'a [u64; 512]) -
         s.participants,
         s.securities,
         PIECES_LIMIT,
-        PLACES,
+        CELLS,
         pieces,
         &needs,
     )

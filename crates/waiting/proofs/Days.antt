@@ -12,9 +12,9 @@ use Rattle.market.specs.declared.Side.the-variants.{Buy, Sell}
 use Rattle.market.specs.declared.Turnover.{Turnover}
 use Rattle.market.specs.Limits.{maxLots, maxPrice, moneyLimit}
 use Rattle.market.specs.Tests.{_≤?_}
-use Rattle.market.specs.Day.{Asset, Day, Money, Pieces, Position, ifMoney, row, place, position, positions, totalLimit}
+use Rattle.market.specs.Day.{Asset, Day, Money, Pieces, Position, ifMoney, row, cell, position, positions, totalLimit}
 use Rattle.market.specs.Day.{turnoverAt, withMoney, withPieces, withPositions}
-use Rattle.market.specs.Needs.{assetOf, columnOf, limitOf, need, needAt, placeFor}
+use Rattle.market.specs.Needs.{assetOf, columnOf, limitOf, need, needAt, cellFor}
 use Rattle.market.specs.Positions.{change, onNeed, total}
 use Rattle.market.specs.Questions.{covered}
 use Rattle.invariant.specs.Standing.{Backed, needsOf}
@@ -22,7 +22,7 @@ use Rattle.invariant.proofs.Held.{held-within}
 use Rattle.invariant.proofs.Backed.{column-known, need-blocked}
 use Rattle.matching.specs.Execution.{needWith}
 use Rattle.waiting.specs.Claims.{Blockable, Freeable, Reckonable, columnBy, coveredBy, moneyWith, piecesWith}
-use Rattle.waiting.specs.Claims.{placeBy, positionBy}
+use Rattle.waiting.specs.Claims.{cellBy, positionBy}
 
 -- an order o, whose security's row is l
 module _ (d : Day) (l : Security) (o : Order) (own : row (d .rules) (o .security) ≡ l) where
@@ -30,20 +30,20 @@ module _ (d : Day) (l : Security) (o : Order) (own : row (d .rules) (o .security
   t = turnoverAt (d .turnover) (o .security)
 
   abbrev there : Position
-  there = position (positions (assetOf (o .side)) d) (placeFor (d .rules) o)
+  there = position (positions (assetOf (o .side)) d) (cellFor (d .rules) o)
 
   need-is : needWith l t o ≡ need (d .rules) (d .turnover) o
   need-is = ap (λ (x : Security). needWith x t o) (sym own)
 
-  place-is : placeBy l o ≡ placeFor (d .rules) o
-  place-is = ap (λ (x : Security). placeBy x o) (sym own) ∙ ap (place (o .participant)) (column (o .side))
+  cell-is : cellBy l o ≡ cellFor (d .rules) o
+  cell-is = ap (λ (x : Security). cellBy x o) (sym own) ∙ ap (cell (o .participant)) (column (o .side))
     where
       column : (x : Side) → columnBy x (row (d .rules) (o .security)) (o .security) ≡ columnOf x (d .rules) (o .security)
       column Buy = refl
       column Sell = refl
 
   position-is : positionBy l o (d .money) (d .pieces) ≡ there
-  position-is = ap (position (positions (assetOf (o .side)) d)) place-is
+  position-is = ap (position (positions (assetOf (o .side)) d)) cell-is
 
   pub covered-is : coveredBy l t o (d .money) (d .pieces) ≡ covered d o
   unfolding covered
@@ -53,10 +53,10 @@ module _ (d : Day) (l : Security) (o : Order) (own : row (d .rules) (o .security
   -- the positions that code hands over make up the definition's day
   pub day-moved : (f : ℕ → Position → Position) (m k : List ℕ) → m ≡ moneyWith f l t o (d .money)
       → k ≡ piecesWith f l t o (d .pieces) → withPieces (withMoney d m) k ≡ onNeed f d o
-  day-moved f m k em ek = rw (em, ek, place-is, need-is) (go (o .side))
+  day-moved f m k em ek = rw (em, ek, cell-is, need-is) (go (o .side))
     where
       go : (x : Side) →
-          let moved : List ℕ → List ℕ = λ (v : List ℕ). change v (placeFor (d .rules) o) (f (need (d .rules) (d .turnover) o)) in
+          let moved : List ℕ → List ℕ = λ (v : List ℕ). change v (cellFor (d .rules) o) (f (need (d .rules) (d .turnover) o)) in
           withPieces (withMoney d (ifMoney (assetOf x) (moved (d .money)) (d .money)))
           (ifMoney (assetOf x) (d .pieces) (moved (d .pieces)))
           ≡ withPositions (assetOf x) d (moved (positions (assetOf x) d))

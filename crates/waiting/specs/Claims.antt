@@ -10,7 +10,7 @@ use Rattle.market.specs.declared.Side.the-variants.{Buy, Sell}
 use Rattle.market.specs.declared.Turnover.{Turnover}
 use Rattle.market.specs.Limits.{columns, maxLot, maxLots, maxPrice, moneyLimit}
 use Rattle.market.specs.Tests.{_≤?_}
-use Rattle.market.specs.Day.{Position, ifMoney, place, position}
+use Rattle.market.specs.Day.{Position, ifMoney, cell, position}
 use Rattle.market.specs.Needs.{assetOf, closingPrice, priceOr}
 use Rattle.market.specs.Positions.{change, total}
 use Rattle.matching.specs.Execution.{needWith}
@@ -20,12 +20,12 @@ abbrev pub columnBy : Side → Security → ℕ → ℕ
 columnBy Buy l s = l .currency
 columnBy Sell l s = s
 
--- the place where it blocks, and the position there
-abbrev pub placeBy : Security → Order → ℕ
-placeBy l o = place (o .participant) (columnBy (o .side) l (o .security))
+-- the cell where it blocks, and the position there
+abbrev pub cellBy : Security → Order → ℕ
+cellBy l o = cell (o .participant) (columnBy (o .side) l (o .security))
 
 abbrev pub positionBy : Security → Order → List ℕ → List ℕ → Position
-positionBy l o m k = position (ifMoney (assetOf (o .side)) m k) (placeBy l o)
+positionBy l o m k = position (ifMoney (assetOf (o .side)) m k) (cellBy l o)
 
 -- question 14
 abbrev pub coveredBy : Security → Turnover → Order → List ℕ → List ℕ → Bool
@@ -33,10 +33,10 @@ coveredBy l t o m k = needWith l t o ≤? (positionBy l o m k) .free
 
 -- the money, and the pieces, with f of the order's need where it blocks
 abbrev pub moneyWith : (ℕ → Position → Position) → Security → Turnover → Order → List ℕ → List ℕ
-moneyWith f l t o m = ifMoney (assetOf (o .side)) (change m (placeBy l o) (f (needWith l t o))) m
+moneyWith f l t o m = ifMoney (assetOf (o .side)) (change m (cellBy l o) (f (needWith l t o))) m
 
 abbrev pub piecesWith : (ℕ → Position → Position) → Security → Turnover → Order → List ℕ → List ℕ
-piecesWith f l t o k = ifMoney (assetOf (o .side)) k (change k (placeBy l o) (f (needWith l t o)))
+piecesWith f l t o k = ifMoney (assetOf (o .side)) k (change k (cellBy l o) (f (needWith l t o)))
 
 -- its need can be reckoned
 pub record Reckonable (l : Security) (t : Turnover) (o : Order) : Type 0 where

@@ -1,7 +1,7 @@
 // What several calls do with an order that waits or enters: its need is blocked or freed, and it leaves. Positions are
 // lent, the order book goes by value; `row` and `turnover` are those of the order's security.
+use amounts::cell_of;
 use amounts::need_of;
-use amounts::place_of;
 use market::Order;
 use market::OrderBook;
 use market::Security;
@@ -29,8 +29,8 @@ pub fn covers<'a>(
     let need = need_of(row, turnover, o);
     let side = o.side;
     match side {
-        Side::Buy => need <= free_of(money, place_of(o.participant, row.currency)),
-        Side::Sell => need <= free_of(pieces, place_of(o.participant, o.security)),
+        Side::Buy => need <= free_of(money, cell_of(o.participant, row.currency)),
+        Side::Sell => need <= free_of(pieces, cell_of(o.participant, o.security)),
     }
 }
 
@@ -49,8 +49,8 @@ pub fn block_need(
     let need = need_of(row, turnover, o);
     let side = o.side;
     match side {
-        Side::Buy => block(money, place_of(o.participant, row.currency), need),
-        Side::Sell => block(pieces, place_of(o.participant, o.security), need),
+        Side::Buy => block(money, cell_of(o.participant, row.currency), need),
+        Side::Sell => block(pieces, cell_of(o.participant, o.security), need),
     }
 }
 
@@ -69,14 +69,14 @@ pub fn free_need(
     let need = need_of(row, turnover, o);
     let side = o.side;
     match side {
-        Side::Buy => release(money, place_of(o.participant, row.currency), need),
-        Side::Sell => release(pieces, place_of(o.participant, o.security), need),
+        Side::Buy => release(money, cell_of(o.participant, row.currency), need),
+        Side::Sell => release(pieces, cell_of(o.participant, o.security), need),
     }
 }
 
 // The order at this place leaves, whatever the reason: its need is freed, and each later one moves a place forward.
 // `row` is that of the order's security.
-pub fn left(
+pub fn leave(
     b: OrderBook,
     at: usize,
     row: Security,

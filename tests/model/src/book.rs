@@ -5,7 +5,7 @@ use crate::calls::{
     Answer, Call, ClosingEntry, Done, Entry, EntryKind, Member, Movement, Opening, Phase,
     SecurityLine, Side, Trade, WaitingKind, WaitingOrder,
 };
-use crate::engine::{Engine, Position};
+use crate::engine::{Engine, Position, Traded};
 
 /// What a check found wrong, in words.
 pub type Checked = Result<(), String>;
@@ -232,23 +232,38 @@ impl Book {
         self.securities.len()
     }
 
+    pub fn orders_waiting(&self) -> usize {
+        self.waiting.len()
+    }
+
     pub fn compare(&self, engine: &Engine) -> Checked {
-        expect(self.phase == engine.phase(), || {
-            format!("phase: book {:?}, state {:?}", self.phase, engine.phase())
-        })?;
-        expect(self.waiting == engine.waiting(), || {
-            let (book, state) = (&self.waiting, engine.waiting());
-            format!("waiting: book {book:?}, state {state:?}")
-        })?;
-        for (security, &book) in self.traded.iter().enumerate() {
-            let state = engine.traded(security);
-            let same = book.pieces == i128::from(state.pieces)
-                && book.turnover == i128::from(state.turnover);
-            expect(same, || {
-                format!("Q and T of {security}: book {book:?}, state {state:?}")
-            })?;
+        self.compare_phase(engine.phase())?;
+        self.compare_waiting(engine.waiting())?;
+        for security in 0..self.securities.len() {
+            self.compare_traded(security, engine.traded(security))?;
         }
         self.compare_positions(engine)
+    }
+
+    pub fn compare_phase(&self, phase: Phase) -> Checked {
+        expect(self.phase == phase, || {
+            format!("phase: book {:?}, state {phase:?}", self.phase)
+        })
+    }
+
+    pub fn compare_waiting(&self, waiting: &[WaitingOrder]) -> Checked {
+        expect(self.waiting == waiting, || {
+            format!("waiting: book {:?}, state {waiting:?}", self.waiting)
+        })
+    }
+
+    pub fn compare_traded(&self, security: usize, state: Traded) -> Checked {
+        let book = self.traded[security];
+        let same =
+            book.pieces == i128::from(state.pieces) && book.turnover == i128::from(state.turnover);
+        expect(same, || {
+            format!("Q and T of {security}: book {book:?}, state {state:?}")
+        })
     }
 
     fn compare_positions(&self, engine: &Engine) -> Checked {

@@ -3,6 +3,7 @@
 /// Numbers of the refusals, by the question whose answer was "no".
 pub mod refusal {
     pub const UNSOUND: u64 = 1;
+    pub const LIST_TOO_SHORT: u64 = 2;
     pub const GROUP_SIZE: u64 = 3;
     pub const PARTICIPANT: u64 = 4;
     pub const CURRENCY_OR_SECURITY: u64 = 5;
@@ -128,6 +129,14 @@ pub enum Call {
     StartClosing,
     EnterClosing(ClosingEntry),
     EndSession,
+}
+
+impl Call {
+    /// Orders, groups and the session's end are lent a list for their trades.
+    /// A closing order writes none.
+    pub fn writes_trades(&self) -> bool {
+        matches!(self, Call::Enter(_) | Call::Group { .. } | Call::EndSession)
+    }
 }
 
 #[derive(Clone, Copy, PartialEq, Eq, Debug)]

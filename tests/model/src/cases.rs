@@ -1,6 +1,7 @@
-//! Day files whose output was reasoned by hand from the scope paper: its
-//! worked example, its edges, and each settled reading of the day file. The
-//! crate `day_cases` keeps them, so that the proved program runs them too.
+//! Day files and scripts whose output was reasoned by hand from the scope
+//! paper: its worked example, its edges, and each settled reading of the day
+//! file. The crates `day_cases` and `script_cases` keep them, so that the
+//! proved programs run them too.
 
 use std::fmt::Display;
 use std::fs;
@@ -14,16 +15,26 @@ pub struct Case {
     pub expected: Vec<u8>,
 }
 
-/// The cases in the order of the program's arguments, at least one.
+/// The day files.
 pub fn cases() -> Result<Vec<Case>, String> {
-    let folder = folder();
+    stored("day_cases")
+}
+
+/// The scripts.
+pub fn script_cases() -> Result<Vec<Case>, String> {
+    stored("script_cases")
+}
+
+/// The cases of a crate in the order of its program's arguments, at least one.
+fn stored(name: &str) -> Result<Vec<Case>, String> {
+    let folder = folder(name);
     let arguments = text_of(&folder.join("args"))?;
     let output = text_of(&folder.join("stdout"))?;
     let names: Vec<&str> = arguments.lines().collect();
     let outputs = outputs(&output)?;
-    expect(!names.is_empty(), || "args names no day file".into())?;
+    expect(!names.is_empty(), || "args names no file".into())?;
     expect(names.len() == outputs.len(), || {
-        "args and stdout name different numbers of day files".into()
+        "args and stdout name different numbers of files".into()
     })?;
     let data = folder.join("data");
     check_all_named(&data, &names)?;
@@ -33,12 +44,14 @@ pub fn cases() -> Result<Vec<Case>, String> {
         .collect()
 }
 
-fn folder() -> PathBuf {
-    Path::new(env!("CARGO_MANIFEST_DIR")).join("../../crates/day_cases")
+fn folder(name: &str) -> PathBuf {
+    Path::new(env!("CARGO_MANIFEST_DIR"))
+        .join("../../crates")
+        .join(name)
 }
 
-/// Each name with what its day prints. No line that a day prints holds the
-/// mark before a name.
+/// Each name with what its text prints. No line that is printed holds the mark
+/// before a name.
 fn outputs(output: &str) -> Result<Vec<&str>, String> {
     let mut parts = output.split("# ");
     expect(parts.next() == Some(""), || {
@@ -47,7 +60,7 @@ fn outputs(output: &str) -> Result<Vec<&str>, String> {
     Ok(parts.collect())
 }
 
-/// A day file that the arguments leave out would never be run.
+/// A file that the arguments leave out would never be run.
 fn check_all_named(data: &Path, names: &[&str]) -> Checked {
     for entry in fs::read_dir(data).map_err(|fault| at(data, fault))? {
         let stored = entry.map_err(|fault| at(data, fault))?.file_name();

@@ -1,8 +1,8 @@
-//! Runs the model on a day file with the book beside it.
+//! Runs the model on a day file or a script with the book beside it.
 
 use crate::book::{expect, Book, Checked};
 use crate::calls::{Answer, Call, Opening, Trade};
-use crate::dayfile::{run_day, Observer};
+use crate::dayfile::{run_text, Observer};
 use crate::engine::Engine;
 use crate::printed::check_printed;
 use crate::tally::Tally;
@@ -47,7 +47,7 @@ impl Checker<'_> {
 
 /// The model's output, once the book agrees with every state and with the
 /// output, and the soundness test has changed nothing.
-pub fn checked_output(text: &[u8], tally: &mut Tally) -> Result<Vec<u8>, String> {
+pub fn checked_output<const LEVEL: u8>(text: &[u8], tally: &mut Tally) -> Result<Vec<u8>, String> {
     let mut checker = Checker {
         book: None,
         line: 0,
@@ -55,16 +55,17 @@ pub fn checked_output(text: &[u8], tally: &mut Tally) -> Result<Vec<u8>, String>
         tally,
     };
     let mut output = Vec::new();
-    run_day(text, false, &mut checker, &mut output);
+    run_text::<LEVEL>(text, false, &mut checker, &mut output);
     if let Some(fault) = checker.fault {
         return Err(format!("book and state differ: {fault}"));
     }
     let mut output_with_soundness = Vec::new();
-    run_day(text, true, &mut (), &mut output_with_soundness);
+    run_text::<LEVEL>(text, true, &mut (), &mut output_with_soundness);
     expect(output == output_with_soundness, || {
         "the soundness test changed the output".into()
     })?;
-    check_printed(text, &output).map_err(|fault| format!("book and output differ: {fault}"))?;
+    check_printed::<LEVEL>(text, &output)
+        .map_err(|fault| format!("book and output differ: {fault}"))?;
     tally.count_output(&output);
     Ok(output)
 }

@@ -1,5 +1,5 @@
-//! Damaged day files: good ones with faults put in, and texts that never were
-//! good.
+//! Damaged day files and scripts: good ones with faults put in, and texts that
+//! never were good.
 
 use crate::random::Random;
 use crate::reader::TEXT_LIMIT;
@@ -59,6 +59,60 @@ const LINES: [&str; 30] = [
     "AB,0,0,1",
 ];
 
+/// Words of scripts, in good form and in bad, of this level and of later ones.
+const SCRIPT_LINES: [&str; 40] = [
+    "SHOW",
+    "SHOW",
+    "SHOW",
+    "SHOW,",
+    "SHOW,0",
+    "SHOWS",
+    "SHO",
+    "show",
+    "LENT,0",
+    "LENT,2",
+    "LENT,1087",
+    "LENT,1088",
+    "LENT,1088",
+    "LENT,4096",
+    "LENT,4097",
+    "LENT,01088",
+    "LENT,1088,",
+    "LENT,1088,1088",
+    "LENT,B",
+    "LENT, 0",
+    "LENT",
+    "LENT,",
+    "lent,0",
+    "COLLECT",
+    "AUCTION",
+    "OFFER,0,B,0,100,1,500,7",
+    "SECOND,1",
+    "DAY,60",
+    "BACK,1",
+    "QUEUE,B,0,0,100,1,K",
+    "QUEUE,P,0,B,0,1",
+    "QUEUE,G,0,2",
+    "SERVE",
+    "NET,0,0",
+    "NETP,0,0",
+    "BANK,0,0",
+    "BANKP,0,0",
+    "H,1,1,1,0",
+    "S,0,10,5,0",
+    "PHASE,open",
+];
+
+/// Headings in the forms of later levels.
+const LATER_HEADINGS: [&str; 6] = [
+    "H,1,1,1,0\nS,0,10,5",
+    "H,1,1,1,1000\nS,0,10,5",
+    "H,1,1,1,1000,59\nS,0,10,5",
+    "H,1,1,1,1000,59,0\nS,0,10,5",
+    "H,1,1,1\nS,0,10,5,0",
+    "H,1,1,2\nS,0,10,5\nS,0,10,5,10000",
+];
+
 /// Of good form, but out of range in every heading.
 const WRONG_SECURITIES: [&str; 6] = [
     "S,4,1,1",
@@ -68,6 +122,8 @@ const WRONG_SECURITIES: [&str; 6] = [
     "S,0,1,1000001",
     "S,9999999999999999,9999999999999999,9999999999999999",
 ];
+
+const SHORT_DAY: &[u8] = b"H,2,1,1\nS,0,10,5\nR,0,0,100000\nD,1,0,1000\n";
 
 const DAMAGES: [fn(&mut Random, &mut Lines); 19] = [
     flip_byte,
@@ -93,10 +149,7 @@ const DAMAGES: [fn(&mut Random, &mut Lines); 19] = [
 
 /// One to four faults somewhere in the text, and at times one at its end.
 pub fn damaged(random: &mut Random, text: Vec<u8>) -> Vec<u8> {
-    let mut lines: Lines = text
-        .split(|&byte| byte == b'\n')
-        .map(|line| line.to_vec())
-        .collect();
+    let mut lines = lines_of(&text);
     // The text's last byte 10 leaves an empty piece that is no line.
     lines.pop();
     for _ in 0..random.within(1, 4) {
@@ -107,6 +160,34 @@ pub fn damaged(random: &mut Random, text: Vec<u8>) -> Vec<u8> {
     text.push(b'\n');
     damage_end(random, &mut text);
     text
+}
+
+/// Words of scripts anywhere, half of them before a group's member where one
+/// follows.
+pub fn with_script_lines(random: &mut Random, text: Vec<u8>) -> Vec<u8> {
+    let mut lines = lines_of(&text);
+    for _ in 0..random.within(1, 6) {
+        let place = script_line_place(random, &lines);
+        let inserted = random.pick(&SCRIPT_LINES);
+        lines.insert(place, inserted.into());
+    }
+    lines.join(&b'\n')
+}
+
+fn script_line_place(random: &mut Random, lines: &Lines) -> usize {
+    let from = random.index(lines.len() + 1);
+    let is_member = |line: &Vec<u8>| line.first() == Some(&b'M');
+    let next_member = lines[from..].iter().position(is_member);
+    match next_member {
+        Some(distance) if random.chance(50) => from + distance,
+        _ => from,
+    }
+}
+
+fn lines_of(text: &[u8]) -> Lines {
+    text.split(|&byte| byte == b'\n')
+        .map(|line| line.to_vec())
+        .collect()
 }
 
 fn damage_end(random: &mut Random, text: &mut Vec<u8>) {
@@ -311,6 +392,36 @@ pub fn oddity(random: &mut Random) -> Vec<u8> {
     }
 }
 
+/// A script that never was good.
+pub fn script_oddity(random: &mut Random) -> Vec<u8> {
+    match random.below(12) {
+        0 => headed(random, b"SHOW\n"),
+        1 => headed(random, b"LENT,0\n"),
+        2..=3 => later_heading(random),
+        4 => odd_heading(random),
+        5..=6 => many_securities(random),
+        _ => random_script_lines(random),
+    }
+}
+
+fn later_heading(random: &mut Random) -> Vec<u8> {
+    let mut text = Vec::new();
+    line(&mut text, random.pick(&LATER_HEADINGS));
+    line(&mut text, "SHOW");
+    text
+}
+
+/// A good heading, and then lines of day files and scripts without sense.
+fn random_script_lines(random: &mut Random) -> Vec<u8> {
+    let mut text = SHORT_DAY.to_vec();
+    for _ in 0..random.within(1, 200) {
+        let of_script = random.pick(&SCRIPT_LINES);
+        let of_day = random.pick(&LINES);
+        line(&mut text, random.pick(&[of_script, of_day]));
+    }
+    text
+}
+
 fn random_bytes(random: &mut Random) -> Vec<u8> {
     let length = random.pick(&[1, 10, 100, 1_000, TEXT_LIMIT, TEXT_LIMIT + 1]);
     (0..length).map(|_| random.number() as u8).collect()
@@ -318,7 +429,7 @@ fn random_bytes(random: &mut Random) -> Vec<u8> {
 
 /// A good heading and then lines without sense.
 fn random_lines(random: &mut Random) -> Vec<u8> {
-    let mut text = b"H,2,1,1\nS,0,10,5\nR,0,0,100000\nD,1,0,1000\n".to_vec();
+    let mut text = SHORT_DAY.to_vec();
     for _ in 0..random.within(1, 200) {
         line(&mut text, random.pick(&LINES));
     }

@@ -1,8 +1,11 @@
-//! The day file program: reads the text, runs the day, writes what it prints.
+//! The program over a text, a day file or a script: reads the text, runs the
+//! day, writes what it prints.
 
 use crate::calls::{refusal, refused, Answer, Call, Done, Opening, Refused, Trade};
-use crate::engine::{Engine, Position};
-use crate::reader::{LineReader, TEXT_LIMIT};
+use crate::engine::{Engine, LIST_LENGTH};
+use crate::level::{DAY_FILE, SCRIPT};
+use crate::output::{print_answer, print_end, print_trade};
+use crate::reader::{Command, LineReader, TEXT_LIMIT};
 
 /// Sees each call beside the program, to check or count it.
 pub trait Observer {
@@ -22,27 +25,44 @@ pub fn output_of(text: &[u8]) -> Vec<u8> {
     out
 }
 
+/// The whole output of a script, without the soundness test.
+pub fn script_output(text: &[u8]) -> Vec<u8> {
+    let mut out = Vec::new();
+    run_text::<SCRIPT>(text, false, &mut (), &mut out);
+    out
+}
+
 /// Runs a day and appends its output to `out`.
 pub fn run_day(text: &[u8], asks_soundness: bool, observer: &mut impl Observer, out: &mut Vec<u8>) {
+    run_text::<DAY_FILE>(text, asks_soundness, observer, out);
+}
+
+/// Runs a text at its level and appends its output to `out`.
+pub fn run_text<const LEVEL: u8>(
+    text: &[u8],
+    asks_soundness: bool,
+    observer: &mut impl Observer,
+    out: &mut Vec<u8>,
+) {
     if text.len() > TEXT_LIMIT {
         print_answer(out, 0, &Err(refused(refusal::TEXT_TOO_LONG)));
         return;
     }
-    let mut reader = LineReader::new(text);
+    let mut reader = LineReader::<LEVEL>::new(text);
     let opened = open_day(&mut reader, asks_soundness, observer);
     match opened {
         Ok(mut engine) => {
             print_answer(out, 1, &Ok(Done::default()));
             run_commands(&mut reader, &mut engine, observer, out);
-            print_positions(&engine, out);
+            print_end::<LEVEL>(&engine, out);
         }
         Err((line, refused)) => print_answer(out, line, &Err(refused)),
     }
 }
 
 /// Forms of the whole heading first, then 17 and 18.
-fn open_day(
-    reader: &mut LineReader,
+fn open_day<const LEVEL: u8>(
+    reader: &mut LineReader<LEVEL>,
     asks_soundness: bool,
     observer: &mut impl Observer,
 ) -> Result<Engine, (u64, Refused)> {
@@ -56,108 +76,40 @@ fn open_day(
     Ok(engine)
 }
 
-fn run_commands(
-    reader: &mut LineReader,
+/// LENT and SHOW are no calls: they answer zeros, and no observer sees them.
+fn run_commands<const LEVEL: u8>(
+    reader: &mut LineReader<LEVEL>,
     engine: &mut Engine,
     observer: &mut impl Observer,
     out: &mut Vec<u8>,
 ) {
+    let mut lent = LIST_LENGTH;
     let mut trades = Vec::new();
     while let Some((line, command)) = reader.next_command() {
-        trades.clear();
-        let answer = match &command {
-            Ok(call) => {
-                let answer = engine.call(call, &mut trades);
+        match &command {
+            Ok(Command::Call(call)) => {
+                trades.clear();
+                let answer = engine.call_lent(call, lent, &mut trades);
                 observer.called(line, call, &answer, &trades);
                 observer.left(engine);
-                answer
+                print_answered(out, line, &answer, &trades);
             }
-            Err(refused) => Err(*refused),
-        };
-        print_answer(out, line, &answer);
-        for trade in &trades {
-            print_trade(out, trade);
+            Ok(Command::Lend(count)) => {
+                lent = *count;
+                print_answer(out, line, &Ok(Done::default()));
+            }
+            Ok(Command::Show) => {
+                print_answer(out, line, &Ok(Done::default()));
+                print_end::<LEVEL>(engine, out);
+            }
+            Err(refused) => print_answer(out, line, &Err(*refused)),
         }
     }
 }
 
-fn print_answer(out: &mut Vec<u8>, line: u64, answer: &Answer) {
-    match answer {
-        Ok(done) => {
-            let numbers = [line, 0, 0, done.code, done.filled, done.left, done.trades];
-            print_line(out, b'A', &numbers);
-        }
-        Err(refused) => {
-            let numbers = [line, refused.number, refused.place, 0, 0, 0, 0];
-            print_line(out, b'A', &numbers);
-        }
+fn print_answered(out: &mut Vec<u8>, line: u64, answer: &Answer, trades: &[Trade]) {
+    print_answer(out, line, answer);
+    for trade in trades {
+        print_trade(out, trade);
     }
-}
-
-fn print_trade(out: &mut Vec<u8>, trade: &Trade) {
-    let numbers = [
-        trade.buy_code,
-        trade.sell_code,
-        trade.buyer,
-        trade.seller,
-        trade.security,
-        trade.price,
-        trade.lots,
-        trade.sum,
-    ];
-    print_line(out, b'T', &numbers);
-}
-
-fn print_positions(engine: &Engine, out: &mut Vec<u8>) {
-    for participant in 0..engine.participants() {
-        for currency in 0..engine.currencies() {
-            let position = engine.money(participant, currency);
-            print_position(out, b'M', participant, currency, position);
-        }
-    }
-    for participant in 0..engine.participants() {
-        for security in 0..engine.securities().len() {
-            let position = engine.pieces(participant, security);
-            print_position(out, b'Q', participant, security, position);
-        }
-    }
-}
-
-fn print_position(
-    out: &mut Vec<u8>,
-    letter: u8,
-    participant: usize,
-    asset: usize,
-    position: Position,
-) {
-    let numbers = [
-        participant as u64,
-        asset as u64,
-        position.free,
-        position.blocked,
-    ];
-    print_line(out, letter, &numbers);
-}
-
-pub fn print_line(out: &mut Vec<u8>, letter: u8, numbers: &[u64]) {
-    out.push(letter);
-    for &number in numbers {
-        out.push(b',');
-        print_number(out, number);
-    }
-    out.push(b'\n');
-}
-
-fn print_number(out: &mut Vec<u8>, mut number: u64) {
-    let mut digits = [0; 20];
-    let mut start = digits.len();
-    loop {
-        start -= 1;
-        digits[start] = b'0' + (number % 10) as u8;
-        number /= 10;
-        if number == 0 {
-            break;
-        }
-    }
-    out.extend_from_slice(&digits[start..]);
 }

@@ -24,6 +24,9 @@ pub const WAITING_LIMIT: usize = 128;
 pub const CODE_LIMIT: u64 = 1_000_000;
 pub const GROUP_SIZES: std::ops::RangeInclusive<usize> = 2..=8;
 
+/// Numbers of the shortest trade list that suffices: 8 for each of 136 trades.
+pub const LIST_LENGTH: u64 = 1_088;
+
 #[derive(Clone, Copy, PartialEq, Eq, Debug, Default)]
 pub struct Position {
     pub free: u64,
@@ -170,8 +173,18 @@ impl State {
 }
 
 /// The calls. Trades are written after those already in the list, which grows
-/// as needed, so question 2 has no counterpart here.
+/// as needed, so that question 2 is about the number lent alone.
 impl Engine {
+    /// A call that is lent so many numbers for its trades.
+    pub fn call_lent(&mut self, call: &Call, lent: u64, trades: &mut Vec<Trade>) -> Answer {
+        if lent < LIST_LENGTH && call.writes_trades() {
+            self.ask_soundness()?;
+            return Err(refused(refusal::LIST_TOO_SHORT));
+        }
+        self.call(call, trades)
+    }
+
+    /// A call that is lent as many numbers as it may need.
     pub fn call(&mut self, call: &Call, trades: &mut Vec<Trade>) -> Answer {
         match call {
             Call::MoneyUp(movement) => self.increase_money(movement),

@@ -1,8 +1,9 @@
-//! Seeded day files. A shadow engine runs beside the writing, so that exact
-//! amounts, fitting lots and waiting codes can be aimed at.
+//! Seeded day files and scripts. A shadow engine runs beside the writing, so
+//! that exact amounts, fitting lots and waiting codes can be aimed at.
 
 mod day;
 mod groups;
+mod script;
 mod single;
 mod spoiled;
 
@@ -35,8 +36,11 @@ struct Plan {
     buy_percent: u64,
     closing_at: usize,
     ending_at: usize,
+    lend_percent: u64,
+    show_percent: u64,
 }
 
+/// A day file lends nothing and shows nothing of its own.
 const SENSIBLE: Plan = Plan {
     length: 2_000,
     orders: 60,
@@ -51,26 +55,50 @@ const SENSIBLE: Plan = Plan {
     buy_percent: 50,
     closing_at: NEVER,
     ending_at: NEVER,
+    lend_percent: 0,
+    show_percent: 0,
 };
 
-/// The day file of a seed; the seed's remainder decides what kind it is.
+const SCRIPTED: Plan = Plan {
+    lend_percent: 3,
+    show_percent: 2,
+    ..SENSIBLE
+};
+
+/// The day file of a seed.
 pub fn day_file(seed: u64) -> Vec<u8> {
+    text(seed, SENSIBLE)
+}
+
+/// The script of a seed: mostly a day with words of scripts among its calls,
+/// at times with such words put in anywhere, or one that never was good.
+pub fn script(seed: u64) -> Vec<u8> {
+    let mut random = Random::new(!seed);
+    match random.below(16) {
+        0 => damage::script_oddity(&mut random),
+        1..=4 => damage::with_script_lines(&mut random, text(seed, SCRIPTED)),
+        _ => text(seed, SCRIPTED),
+    }
+}
+
+/// The text of a seed; the seed's remainder decides what kind it is.
+fn text(seed: u64, usual: Plan) -> Vec<u8> {
     let mut random = Random::new(seed);
     match seed % 16 {
-        0..=4 => small_day(random),
-        5..=6 => medium_day(random),
-        7 => long_day(random),
-        8 => full_book_day(random),
-        9 => group_day(random),
-        10 => closing_day(random),
-        11 => spoiled_day(random),
+        0..=4 => small_day(random, usual),
+        5..=6 => medium_day(random, usual),
+        7 => long_day(random, usual),
+        8 => full_book_day(random, usual),
+        9 => group_day(random, usual),
+        10 => closing_day(random, usual),
+        11 => spoiled_day(random, usual),
         12 => damage::oddity(&mut random),
         13 => {
-            let text = medium_day(Random::new(random.number()));
+            let text = medium_day(Random::new(random.number()), usual);
             damage::damaged(&mut random, text)
         }
         _ => {
-            let text = small_day(Random::new(random.number()));
+            let text = small_day(Random::new(random.number()), usual);
             damage::damaged(&mut random, text)
         }
     }
@@ -92,32 +120,32 @@ pub fn good_long_day(seed: u64) -> Vec<u8> {
     Day::new(random, plan, opening).write()
 }
 
-fn small_day(mut random: Random) -> Vec<u8> {
+fn small_day(mut random: Random, usual: Plan) -> Vec<u8> {
     let plan = Plan {
         length: random.within(60, 3_000) as usize,
-        ..SENSIBLE
+        ..usual
     };
     let plan = with_closing(&mut random, plan);
     let opening = opening(&mut random, 4);
     Day::new(random, plan, opening).write()
 }
 
-fn medium_day(mut random: Random) -> Vec<u8> {
+fn medium_day(mut random: Random, usual: Plan) -> Vec<u8> {
     let plan = Plan {
         length: random.within(3_000, 12_000) as usize,
         kept_percent: random.within(20, 90),
-        ..SENSIBLE
+        ..usual
     };
     let plan = with_closing(&mut random, plan);
     let opening = opening(&mut random, PARTICIPANT_LIMIT as u64);
     Day::new(random, plan, opening).write()
 }
 
-fn long_day(mut random: Random) -> Vec<u8> {
+fn long_day(mut random: Random, usual: Plan) -> Vec<u8> {
     let plan = Plan {
         length: random.within(30_000, TEXT_LIMIT as u64 + LONGEST_CALL as u64) as usize,
         kept_percent: random.within(30, 80),
-        ..SENSIBLE
+        ..usual
     };
     let plan = with_closing(&mut random, plan);
     let opening = opening(&mut random, PARTICIPANT_LIMIT as u64);
@@ -126,7 +154,7 @@ fn long_day(mut random: Random) -> Vec<u8> {
 
 /// Kept orders that rarely cross, so that 128 of them come to wait, at times
 /// nearly all on one side.
-fn full_book_day(mut random: Random) -> Vec<u8> {
+fn full_book_day(mut random: Random, usual: Plan) -> Vec<u8> {
     let plan = Plan {
         length: random.within(5_000, 20_000) as usize,
         kept_percent: 95,
@@ -135,21 +163,21 @@ fn full_book_day(mut random: Random) -> Vec<u8> {
         exact_fills: 3,
         groups: 2,
         squeezes: 1,
-        ..SENSIBLE
+        ..usual
     };
     let plan = with_closing(&mut random, plan);
     let opening = opening(&mut random, 6);
     Day::new(random, plan, opening).write()
 }
 
-fn group_day(mut random: Random) -> Vec<u8> {
+fn group_day(mut random: Random, usual: Plan) -> Vec<u8> {
     let plan = Plan {
         length: random.within(3_000, 20_000) as usize,
         orders: 40,
         groups: 40,
         kept_percent: 90,
         crossing_percent: 20,
-        ..SENSIBLE
+        ..usual
     };
     let plan = with_closing(&mut random, plan);
     let opening = opening(&mut random, 6);
@@ -157,7 +185,7 @@ fn group_day(mut random: Random) -> Vec<u8> {
 }
 
 /// Most of the day is its closing session, long enough to fill the book.
-fn closing_day(mut random: Random) -> Vec<u8> {
+fn closing_day(mut random: Random, usual: Plan) -> Vec<u8> {
     let length = random.within(1_500, 10_000) as usize;
     let closing_at = length / 4;
     let plan = Plan {
@@ -165,20 +193,20 @@ fn closing_day(mut random: Random) -> Vec<u8> {
         closing_at,
         ending_at: random.within(closing_at as u64, length as u64) as usize,
         crossing_percent: 90,
-        ..SENSIBLE
+        ..usual
     };
     let opening = opening(&mut random, 5);
     Day::new(random, plan, opening).write()
 }
 
 /// Mostly calls with a number at the edge.
-fn spoiled_day(mut random: Random) -> Vec<u8> {
+fn spoiled_day(mut random: Random, usual: Plan) -> Vec<u8> {
     let plan = Plan {
         length: random.within(500, 8_000) as usize,
         spoiled: 150,
         squeezes: 20,
         movements: 30,
-        ..SENSIBLE
+        ..usual
     };
     let plan = with_closing(&mut random, plan);
     let opening = opening(&mut random, PARTICIPANT_LIMIT as u64);

@@ -1,6 +1,6 @@
 //! Independent model of the trading day, written from the scope paper alone:
-//! the engine, the day file program, the book of demand 3, and generated day
-//! files to compare the model with the proved engine.
+//! the engine, the program over day files and scripts, the book of demand 3,
+//! and generated texts to compare the model with the proved engine.
 
 pub mod book;
 pub mod calls;
@@ -10,6 +10,8 @@ pub mod damage;
 pub mod dayfile;
 pub mod engine;
 pub mod generate;
+pub mod level;
+pub mod output;
 pub mod printed;
 pub mod random;
 pub mod reader;

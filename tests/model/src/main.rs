@@ -6,18 +6,21 @@ use std::io::{self, Read, Write};
 use std::process::ExitCode;
 
 use model::check::checked_output;
-use model::dayfile::output_of;
-use model::generate::day_file;
+use model::dayfile::{output_of, script_output};
+use model::generate::{day_file, script};
+use model::level::{DAY_FILE, SCRIPT};
 use model::tally::Tally;
 
 #[cfg(feature = "engine")]
 mod bench;
 #[cfg(feature = "engine")]
 mod clock;
-#[cfg(feature = "engine")]
+#[cfg(any(feature = "engine", feature = "replay"))]
 mod compare;
-#[cfg(feature = "engine")]
+mod difference;
+#[cfg(any(feature = "engine", feature = "replay"))]
 mod engine_under_test;
+mod pipes;
 mod program;
 
 const FIRST_SEED: u64 = 1;
@@ -25,10 +28,16 @@ const SEED_COUNT: u64 = 6_000;
 
 const USAGE: &str = "\
 usage: model compare [first-seed] [count]  engine and model on generated day files
+       model scripts [first-seed] [count]  engine and model on generated scripts
        model self-check [first-seed] [count]  model and book on generated day files
+       model check-scripts [first-seed] [count]  model and book on generated scripts
        model print [FILE]  the model's output for a day file or standard input
+       model script [FILE]  the model's output for a script or standard input
        model day SEED  the day file of a seed
-       model program PATH [first-seed] [count]  the day program and model on generated day files
+       model script-text SEED  the script of a seed
+       model program PATH [first-seed] [count]  the day program and model on generated day files,
+           then the program on streams that make it wait or fail
+       model replay PATH [first-seed] [count]  the program replay and model on generated scripts
        model bench  speed of engine and model";
 
 fn main() -> ExitCode {
@@ -45,18 +54,26 @@ fn main() -> ExitCode {
 fn run(arguments: &[String]) -> Result<(), String> {
     let rest = arguments.get(1..).unwrap_or_default();
     match arguments.first().map(String::as_str) {
-        Some("self-check") => self_check(rest),
-        Some("print") => print(rest),
-        Some("day") => print_day(rest),
+        Some("self-check") => self_check::<DAY_FILE>("self-check", "day files", day_file, rest),
+        Some("check-scripts") => self_check::<SCRIPT>("check-scripts", "scripts", script, rest),
+        Some("print") => print(output_of, rest),
+        Some("script") => print(script_output, rest),
+        Some("day") => print_text(day_file, rest),
+        Some("script-text") => print_text(script, rest),
         Some("program") => {
-            let path = rest.first().ok_or(USAGE)?;
-            let (first_seed, count) = seeds(&rest[1..])?;
-            program::compare_program(path, first_seed, count)
+            run_program(program::compare_program, rest)?;
+            pipes::try_pipes(rest.first().ok_or(USAGE)?)
         }
+        Some("replay") => run_program(program::compare_replay, rest),
         #[cfg(feature = "engine")]
         Some("compare") => {
             let (first_seed, count) = seeds(rest)?;
             compare::compare(first_seed, count)
+        }
+        #[cfg(feature = "replay")]
+        Some("scripts") => {
+            let (first_seed, count) = seeds(rest)?;
+            compare::compare_scripts(first_seed, count)
         }
         #[cfg(feature = "engine")]
         Some("bench") => bench::bench(),
@@ -79,21 +96,26 @@ fn seeds(arguments: &[String]) -> Result<(u64, u64), String> {
     Ok((number(0, FIRST_SEED)?, number(1, SEED_COUNT)?))
 }
 
-fn self_check(arguments: &[String]) -> Result<(), String> {
+fn self_check<const LEVEL: u8>(
+    name: &str,
+    texts: &str,
+    text: fn(u64) -> Vec<u8>,
+    arguments: &[String],
+) -> Result<(), String> {
     let (first_seed, count) = seeds(arguments)?;
     let mut tally = Tally::default();
     for seed in first_seed..first_seed.saturating_add(count) {
-        checked_output(&day_file(seed), &mut tally)
-            .map_err(|fault| format!("self-check: seed {seed}: {fault}"))?;
+        checked_output::<LEVEL>(&text(seed), &mut tally)
+            .map_err(|fault| format!("{name}: seed {seed}: {fault}"))?;
     }
     let Tally {
         files, commands, ..
     } = tally;
-    println!("self-check: {files} day files, {commands} commands, 0 differences\n{tally}");
+    println!("{name}: {files} {texts}, {commands} commands, 0 differences\n{tally}");
     Ok(())
 }
 
-fn print(arguments: &[String]) -> Result<(), String> {
+fn print(output: fn(&[u8]) -> Vec<u8>, arguments: &[String]) -> Result<(), String> {
     let text = match arguments.first() {
         Some(path) => fs::read(path).map_err(|fault| format!("{path}: {fault}"))?,
         None => {
@@ -104,12 +126,21 @@ fn print(arguments: &[String]) -> Result<(), String> {
             text
         }
     };
-    write_out(&output_of(&text))
+    write_out(&output(&text))
 }
 
-fn print_day(arguments: &[String]) -> Result<(), String> {
+fn print_text(text: fn(u64) -> Vec<u8>, arguments: &[String]) -> Result<(), String> {
     let argument = arguments.first().ok_or(USAGE)?;
-    write_out(&day_file(seed(argument)?))
+    write_out(&text(seed(argument)?))
+}
+
+fn run_program(
+    compare: fn(&str, u64, u64) -> Result<(), String>,
+    arguments: &[String],
+) -> Result<(), String> {
+    let path = arguments.first().ok_or(USAGE)?;
+    let (first_seed, count) = seeds(&arguments[1..])?;
+    compare(path, first_seed, count)
 }
 
 fn write_out(bytes: &[u8]) -> Result<(), String> {

@@ -1,35 +1,96 @@
-//! Feeds the book from a day file and what a program printed for it, so that
-//! any engine's output is checked without a look at its state.
+//! Feeds the book from a day file or a script and what a program printed for
+//! it, so that any engine's output is checked without a look at its state.
 
 use crate::book::{expect, Book, Checked};
-use crate::calls::{Answer, Done, Opening, Refused, Trade};
-use crate::engine::{Engine, Position};
-use crate::reader::{number, LineReader, TEXT_LIMIT};
+use crate::calls::{
+    refusal, refused, Answer, Call, Done, Opening, Phase, Refused, Side, Trade, WaitingKind,
+    WaitingOrder,
+};
+use crate::engine::{Engine, Position, Traded, LIST_LENGTH};
+use crate::reader::{number, Command, LineReader, TEXT_LIMIT};
 
 /// The printed lines, taken one after another.
 struct Printed<'output> {
     rest: &'output [u8],
 }
 
-impl Printed<'_> {
-    /// The numbers of the next line, which must start with the letter due.
-    fn line<const COUNT: usize>(&mut self, letter: u8) -> Result<[u64; COUNT], String> {
+/// One printed line, and the fields after its word.
+struct Line<'output, const COUNT: usize> {
+    whole: &'output [u8],
+    fields: [&'output [u8]; COUNT],
+}
+
+impl<const COUNT: usize> Line<'_, COUNT> {
+    fn read<Item>(&self, read: impl FnOnce(&Self) -> Option<Item>) -> Result<Item, String> {
+        read(self).ok_or_else(|| format!("a wrong field: {}", self.whole.escape_ascii()))
+    }
+
+    fn number(&self, place: usize) -> Option<u64> {
+        number(self.fields[place])
+    }
+
+    /// An index in the book's tables.
+    fn index(&self, place: usize) -> Option<usize> {
+        usize::try_from(self.number(place)?).ok()
+    }
+
+    fn phase(&self, place: usize) -> Option<Phase> {
+        match self.fields[place] {
+            b"open" => Some(Phase::Open),
+            b"closing" => Some(Phase::Closing),
+            b"closed" => Some(Phase::Closed),
+            _ => None,
+        }
+    }
+
+    fn side(&self, place: usize) -> Option<Side> {
+        match self.fields[place] {
+            b"B" => Some(Side::Buy),
+            b"L" => Some(Side::Sell),
+            _ => None,
+        }
+    }
+
+    /// A waiting order's kind, with the price in the field after it.
+    fn waiting_kind(&self, place: usize) -> Option<WaitingKind> {
+        match (self.fields[place], self.number(place + 1)?) {
+            (b"K", price) => Some(WaitingKind::Kept(price)),
+            (b"P", 0) => Some(WaitingKind::Closing),
+            _ => None,
+        }
+    }
+}
+
+impl<'output> Printed<'output> {
+    /// The next line, which must have the word due and so many fields after it.
+    fn line<const COUNT: usize>(&mut self, word: &str) -> Result<Line<'output, COUNT>, String> {
         let end = self
             .rest
             .iter()
             .position(|&byte| byte == b'\n')
             .ok_or("the output ends too early")?;
-        let line = &self.rest[..end];
+        let whole = &self.rest[..end];
         self.rest = &self.rest[end + 1..];
-        numbers(line, letter).ok_or_else(|| {
-            let line = String::from_utf8_lossy(line);
-            format!("no {} line of {COUNT} numbers: {line}", char::from(letter))
+        let fields = fields(whole, word).ok_or_else(|| {
+            let printed = whole.escape_ascii();
+            format!("no {word} line of {COUNT} fields: {printed}")
+        })?;
+        Ok(Line { whole, fields })
+    }
+
+    fn numbers<const COUNT: usize>(&mut self, word: &str) -> Result<[u64; COUNT], String> {
+        self.line::<COUNT>(word)?.read(|line| {
+            let mut numbers = [0; COUNT];
+            for (place, into) in numbers.iter_mut().enumerate() {
+                *into = line.number(place)?;
+            }
+            Some(numbers)
         })
     }
 
     /// A command's answer, which must carry its line number.
     fn answer(&mut self, line: u64) -> Result<Answer, String> {
-        let [printed, refusal, place, code, filled, left, trades] = self.line(b'A')?;
+        let [printed, refusal, place, code, filled, left, trades] = self.numbers("A")?;
         expect(printed == line, || {
             format!("answer for line {printed}, due for line {line}")
         })?;
@@ -56,7 +117,7 @@ impl Printed<'_> {
     }
 
     fn trade(&mut self) -> Result<Trade, String> {
-        let [buy_code, sell_code, buyer, seller, security, price, lots, sum] = self.line(b'T')?;
+        let [buy_code, sell_code, buyer, seller, security, price, lots, sum] = self.numbers("T")?;
         Ok(Trade {
             buy_code,
             sell_code,
@@ -71,46 +132,81 @@ impl Printed<'_> {
 
     fn position(
         &mut self,
-        letter: u8,
+        word: &str,
         participant: usize,
         asset: usize,
     ) -> Result<Position, String> {
-        let [printed_participant, printed_asset, free, blocked] = self.line(letter)?;
+        let [printed_participant, printed_asset, free, blocked] = self.numbers(word)?;
         let printed = [printed_participant, printed_asset];
         expect(printed == [participant as u64, asset as u64], || {
             format!("position of {printed:?}, due of {participant}, {asset}")
         })?;
         Ok(Position { free, blocked })
     }
+
+    fn traded(&mut self, security: usize) -> Result<Traded, String> {
+        let [printed, pieces, turnover] = self.numbers("TURNOVER")?;
+        expect(printed == security as u64, || {
+            format!("turnover of {printed}, due of {security}")
+        })?;
+        Ok(Traded { pieces, turnover })
+    }
+
+    fn waiting_order(&mut self) -> Result<WaitingOrder, String> {
+        self.line::<7>("WAITS")?.read(|line| {
+            Some(WaitingOrder {
+                participant: line.index(0)?,
+                code: line.number(1)?,
+                side: line.side(2)?,
+                security: line.index(3)?,
+                lots: line.number(4)?,
+                kind: line.waiting_kind(5)?,
+            })
+        })
+    }
 }
 
-fn numbers<const COUNT: usize>(line: &[u8], letter: u8) -> Option<[u64; COUNT]> {
-    let mut fields = line.split(|&byte| byte == b',');
-    if fields.next()? != [letter] {
+fn fields<'line, const COUNT: usize>(
+    line: &'line [u8],
+    word: &str,
+) -> Option<[&'line [u8]; COUNT]> {
+    let mut parts = line.split(|&byte| byte == b',');
+    if parts.next()? != word.as_bytes() {
         return None;
     }
-    let mut numbers = [0; COUNT];
-    for place in &mut numbers {
-        *place = number(fields.next()?)?;
+    let mut fields = [&line[..0]; COUNT];
+    for field in &mut fields {
+        *field = parts.next()?;
     }
-    fields.next().is_none().then_some(numbers)
+    parts.next().is_none().then_some(fields)
 }
 
-/// Checks what was printed for a day file against the book.
-pub fn check_printed(text: &[u8], output: &[u8]) -> Checked {
+/// The book, and what it doesn't hold: codes given, and numbers lent for the
+/// trades of the next call.
+struct Fed {
+    book: Book,
+    codes_given: u64,
+    lent: u64,
+}
+
+/// Checks what was printed for a text at its level against the book.
+pub fn check_printed<const LEVEL: u8>(text: &[u8], output: &[u8]) -> Checked {
     let mut printed = Printed { rest: output };
-    let mut reader = LineReader::new(text);
+    let mut reader = LineReader::<LEVEL>::new(text);
     match accepted_opening(text, &mut reader) {
         Some(opening) => check_day(&opening, &mut reader, &mut printed)?,
         None => {
-            let [_, refusal, ..]: [u64; 7] = printed.line(b'A')?;
+            let [_, refusal, ..]: [u64; 7] = printed.numbers("A")?;
             expect(refusal != 0, || "a faulty heading is accepted".into())?;
         }
     }
     expect(printed.rest.is_empty(), || "surplus output".into())
 }
 
-fn accepted_opening(text: &[u8], reader: &mut LineReader) -> Option<Opening> {
+fn accepted_opening<const LEVEL: u8>(
+    text: &[u8],
+    reader: &mut LineReader<LEVEL>,
+) -> Option<Opening> {
     if text.len() > TEXT_LIMIT {
         return None;
     }
@@ -119,40 +215,150 @@ fn accepted_opening(text: &[u8], reader: &mut LineReader) -> Option<Opening> {
     Some(opening)
 }
 
-fn check_day(opening: &Opening, reader: &mut LineReader, printed: &mut Printed) -> Checked {
-    let mut book = Book::new(opening);
+fn check_day<const LEVEL: u8>(
+    opening: &Opening,
+    reader: &mut LineReader<LEVEL>,
+    printed: &mut Printed,
+) -> Checked {
+    let mut fed = Fed {
+        book: Book::new(opening),
+        codes_given: 0,
+        lent: LIST_LENGTH,
+    };
     let heading = printed.answer(1)?;
     expect(heading == Ok(Done::default()), || {
         "the heading is refused".into()
     })?;
     while let Some((line, command)) = reader.next_command() {
-        let answer = printed.answer(line)?;
-        let trades = printed.trades(&answer)?;
-        match command {
-            Ok(call) => book
-                .feed(&call, &answer, &trades)
-                .map_err(|fault| format!("line {line}: {fault}"))?,
-            Err(refused) => expect(answer == Err(refused), || {
-                format!("line {line}: {answer:?} for a line in bad form")
-            })?,
-        }
+        check_command::<LEVEL>(&mut fed, line, command, printed)
+            .map_err(|fault| format!("line {line}: {fault}"))?;
     }
-    check_positions(&book, printed)
+    check_end::<LEVEL>(&fed, printed)
 }
 
-fn check_positions(book: &Book, printed: &mut Printed) -> Checked {
+fn check_command<const LEVEL: u8>(
+    fed: &mut Fed,
+    line: u64,
+    command: Result<Command, Refused>,
+    printed: &mut Printed,
+) -> Checked {
+    let answer = printed.answer(line)?;
+    let trades = printed.trades(&answer)?;
+    match command {
+        Ok(Command::Call(call)) => fed.feed(&call, &answer, &trades),
+        Ok(Command::Lend(count)) => {
+            fed.lent = count;
+            expect_answer(&answer, Ok(Done::default()))
+        }
+        Ok(Command::Show) => {
+            expect_answer(&answer, Ok(Done::default()))?;
+            check_end::<LEVEL>(fed, printed)
+        }
+        Err(refused) => expect_answer(&answer, Err(refused)),
+    }
+}
+
+fn expect_answer(answer: &Answer, due: Answer) -> Checked {
+    expect(*answer == due, || format!("{answer:?}, due {due:?}"))
+}
+
+impl Fed {
+    fn feed(&mut self, call: &Call, answer: &Answer, trades: &[Trade]) -> Checked {
+        let too_short = Err(refused(refusal::LIST_TOO_SHORT));
+        if self.lent < LIST_LENGTH && call.writes_trades() {
+            expect_answer(answer, too_short)?;
+        } else {
+            expect(*answer != too_short, || "the list lent suffices".into())?;
+        }
+        if let Ok(done) = answer {
+            self.take_codes(call, done.code)?;
+        }
+        self.book.feed(call, answer, trades)
+    }
+
+    /// An accepted order takes the next code, a group one for each member.
+    fn take_codes(&mut self, call: &Call, code: u64) -> Checked {
+        let taken = match call {
+            Call::Enter(_) | Call::EnterClosing(_) => 1,
+            Call::Group { members, .. } => members.len() as u64,
+            _ => return Ok(()),
+        };
+        expect(code == self.codes_given + 1, || {
+            format!("code {code} after {}", self.codes_given)
+        })?;
+        self.codes_given += taken;
+        Ok(())
+    }
+}
+
+type CheckLines = fn(&Fed, &mut Printed) -> Checked;
+
+/// The lines of the end in their order, each from its level on.
+const END: [(u8, CheckLines); 6] = [
+    (0, check_money),
+    (0, check_pieces),
+    (1, check_phase),
+    (1, check_turnovers),
+    (1, check_codes),
+    (1, check_waiting),
+];
+
+fn check_end<const LEVEL: u8>(fed: &Fed, printed: &mut Printed) -> Checked {
+    for (level, check) in END {
+        if level <= LEVEL {
+            check(fed, printed)?;
+        }
+    }
+    Ok(())
+}
+
+fn check_money(fed: &Fed, printed: &mut Printed) -> Checked {
+    let book = &fed.book;
     let needs = book.needs();
     for participant in 0..book.participants() {
         for currency in 0..book.currencies() {
-            let position = printed.position(b'M', participant, currency)?;
+            let position = printed.position("M", participant, currency)?;
             book.compare_money(&needs, participant, currency, position)?;
         }
     }
+    Ok(())
+}
+
+fn check_pieces(fed: &Fed, printed: &mut Printed) -> Checked {
+    let book = &fed.book;
+    let needs = book.needs();
     for participant in 0..book.participants() {
         for security in 0..book.securities() {
-            let position = printed.position(b'Q', participant, security)?;
+            let position = printed.position("Q", participant, security)?;
             book.compare_pieces(&needs, participant, security, position)?;
         }
     }
     Ok(())
+}
+
+fn check_phase(fed: &Fed, printed: &mut Printed) -> Checked {
+    let phase = printed.line::<1>("PHASE")?.read(|line| line.phase(0))?;
+    fed.book.compare_phase(phase)
+}
+
+fn check_turnovers(fed: &Fed, printed: &mut Printed) -> Checked {
+    for security in 0..fed.book.securities() {
+        let traded = printed.traded(security)?;
+        fed.book.compare_traded(security, traded)?;
+    }
+    Ok(())
+}
+
+fn check_codes(fed: &Fed, printed: &mut Printed) -> Checked {
+    let [codes] = printed.numbers("CODES")?;
+    expect(codes == fed.codes_given, || {
+        format!("{codes} codes, but {} were answered", fed.codes_given)
+    })
+}
+
+fn check_waiting(fed: &Fed, printed: &mut Printed) -> Checked {
+    let count = fed.book.orders_waiting();
+    let waiting: Result<Vec<WaitingOrder>, String> =
+        (0..count).map(|_| printed.waiting_order()).collect();
+    fed.book.compare_waiting(&waiting?)
 }

@@ -1,4 +1,5 @@
-//! Reads the day file's text: lines, fields, numbers, the heading, commands.
+//! Reads a text at its level, a day file or a script: lines, fields, numbers,
+//! the heading, commands.
 
 use crate::calls::{
     refusal, refused, Call, ClosingEntry, Entry, EntryKind, Member, Movement, Opening, Refused,
@@ -8,23 +9,34 @@ use crate::engine::GROUP_SIZES;
 
 pub const TEXT_LIMIT: usize = 65_536;
 const MOST_DIGITS: usize = 16;
+const LENT_LIMIT: u64 = 4_096;
 
 /// The lent text and how far it is read. A copy reads ahead.
 #[derive(Clone, Copy)]
-pub struct LineReader<'text> {
+pub struct LineReader<'text, const LEVEL: u8> {
     rest: &'text [u8],
     line: u64,
 }
 
-/// A command's line number, and the call it stands for or its refusal.
-pub type Command = (u64, Result<Call, Refused>);
+/// What a line in good form asks for.
+#[derive(Clone, PartialEq, Eq, Debug)]
+pub enum Command {
+    Call(Call),
+    /// From here on each call is lent so many numbers for its trades.
+    Lend(u64),
+    /// The lines of the end are printed here.
+    Show,
+}
+
+/// A command's line number, and the command or its refusal.
+pub type NumberedCommand = (u64, Result<Command, Refused>);
 
 /// The heading's first fault in form, by its line.
 pub struct HeadingFault {
     pub line: u64,
 }
 
-impl<'text> LineReader<'text> {
+impl<'text, const LEVEL: u8> LineReader<'text, LEVEL> {
     pub fn new(text: &'text [u8]) -> Self {
         LineReader {
             rest: text,
@@ -74,12 +86,12 @@ impl<'text> LineReader<'text> {
         self.next_line().and_then(read).ok_or(HeadingFault { line })
     }
 
-    pub fn next_command(&mut self) -> Option<Command> {
+    pub fn next_command(&mut self) -> Option<NumberedCommand> {
         let bytes = self.next_line()?;
         let line = self.line;
         let command = match bytes.first() {
-            Some(b'G') => self.group(bytes),
-            _ => call(bytes).ok_or(refused(refusal::MALFORMED)),
+            Some(b'G') => self.group(bytes).map(Command::Call),
+            _ => command::<LEVEL>(bytes).ok_or(refused(refusal::MALFORMED)),
         };
         Some((line, command))
     }
@@ -157,6 +169,11 @@ impl<'line> Fields<'line> {
         }
     }
 
+    /// How many numbers are lent.
+    fn lent(&mut self) -> Option<u64> {
+        self.number().filter(|&count| count <= LENT_LIMIT)
+    }
+
     /// Passes what was read, unless a surplus field follows.
     fn end<Item>(&self, item: Item) -> Option<Item> {
         self.rest.is_none().then_some(item)
@@ -215,26 +232,39 @@ fn member_line(line: &[u8]) -> Option<Member> {
     fields.end(member)
 }
 
-/// Every line that is one call by itself. H, S and M are out of place here.
-fn call(line: &[u8]) -> Option<Call> {
+/// Every line that is a command by itself. H, S and M are out of place here.
+/// Each word stands beside the levels that have it, here and below.
+fn command<const LEVEL: u8>(line: &[u8]) -> Option<Command> {
     let mut fields = Fields::new(line);
-    let call = match fields.letter()? {
-        b'R' => Call::MoneyUp(movement(&mut fields)?),
-        b'W' => Call::MoneyDown(movement(&mut fields)?),
-        b'D' => Call::PiecesUp(movement(&mut fields)?),
-        b'E' => Call::PiecesDown(movement(&mut fields)?),
-        b'B' => Call::Enter(entry(Side::Buy, &mut fields)?),
-        b'L' => Call::Enter(entry(Side::Sell, &mut fields)?),
-        b'X' => Call::Cancel {
-            participant: fields.number()?,
-            code: fields.number()?,
-        },
-        b'C' => Call::StartClosing,
-        b'P' => Call::EnterClosing(closing_entry(&mut fields)?),
-        b'Z' => Call::EndSession,
-        _ => return None,
+    let command = match (fields.next()?, LEVEL) {
+        (b"LENT", 1..) => Command::Lend(fields.lent()?),
+        (b"SHOW", 1..) => Command::Show,
+        (word, _) => Command::Call(call::<LEVEL>(word, &mut fields)?),
     };
-    fields.end(call)
+    fields.end(command)
+}
+
+fn call<const LEVEL: u8>(word: &[u8], fields: &mut Fields) -> Option<Call> {
+    Some(match (word, LEVEL) {
+        (b"R", 0..) => Call::MoneyUp(movement(fields)?),
+        (b"W", 0..) => Call::MoneyDown(movement(fields)?),
+        (b"D", 0..) => Call::PiecesUp(movement(fields)?),
+        (b"E", 0..) => Call::PiecesDown(movement(fields)?),
+        (b"B", 0..) => Call::Enter(entry(Side::Buy, fields)?),
+        (b"L", 0..) => Call::Enter(entry(Side::Sell, fields)?),
+        (b"X", 0..) => cancel(fields)?,
+        (b"C", 0..) => Call::StartClosing,
+        (b"P", 0..) => Call::EnterClosing(closing_entry(fields)?),
+        (b"Z", 0..) => Call::EndSession,
+        _ => return None,
+    })
+}
+
+fn cancel(fields: &mut Fields) -> Option<Call> {
+    Some(Call::Cancel {
+        participant: fields.number()?,
+        code: fields.number()?,
+    })
 }
 
 fn movement(fields: &mut Fields) -> Option<Movement> {

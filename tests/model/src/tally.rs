@@ -1,5 +1,6 @@
-//! Counts what the day files brought about, to show what a test has reached.
+//! Counts what the texts brought about, to show what a test has reached.
 
+use std::collections::BTreeMap;
 use std::fmt;
 
 use crate::calls::{Answer, Call};
@@ -17,9 +18,19 @@ pub struct Tally {
     /// Groups refused at a later member, after earlier ones had traded.
     pub groups_undone: u64,
     refusals: [u64; MOST_REFUSALS],
+    /// How often each phase was shown; day files show none.
+    phases: BTreeMap<String, u64>,
 }
 
 impl Tally {
+    pub fn refusals(&self, number: usize) -> u64 {
+        self.refusals.get(number).copied().unwrap_or(0)
+    }
+
+    pub fn shown(&self, phase: &str) -> u64 {
+        self.phases.get(phase).copied().unwrap_or(0)
+    }
+
     pub fn count_group(&mut self, call: &Call, answer: &Answer) {
         if !matches!(call, Call::Group { .. }) {
             return;
@@ -33,16 +44,22 @@ impl Tally {
         }
     }
 
-    /// Counts a printed day's answers and trades.
+    /// Counts a printed text's answers, trades and phases.
     pub fn count_output(&mut self, output: &[u8]) {
         self.files += 1;
         for line in output.split(|&byte| byte == b'\n') {
-            match line.first() {
-                Some(b'A') => self.count_answer(line),
-                Some(b'T') => self.trades += 1,
+            match line {
+                [b'A', b',', ..] => self.count_answer(line),
+                [b'T', b',', ..] => self.trades += 1,
+                [b'P', b'H', b'A', b'S', b'E', b',', phase @ ..] => self.count_phase(phase),
                 _ => {}
             }
         }
+    }
+
+    fn count_phase(&mut self, phase: &[u8]) {
+        let phase = phase.escape_ascii().to_string();
+        *self.phases.entry(phase).or_default() += 1;
     }
 
     fn count_answer(&mut self, line: &[u8]) {
@@ -72,6 +89,12 @@ impl fmt::Display for Tally {
             if *count > 0 {
                 write!(out, " {number}: {count}")?;
             }
+        }
+        if !self.phases.is_empty() {
+            write!(out, "\n  phases shown (phase: count)")?;
+        }
+        for (phase, count) in &self.phases {
+            write!(out, " {phase}: {count}")?;
         }
         Ok(())
     }

@@ -1,6 +1,8 @@
 //! The book objects to outputs that don't add up.
 
 use model::cases::cases;
+use model::dayfile::script_output;
+use model::level::{DAY_FILE, SCRIPT};
 use model::printed::check_printed;
 
 /// Replaces one line of the worked example's output.
@@ -8,7 +10,7 @@ fn altered(line: &str, by: &str) -> Result<(), String> {
     let example = cases().expect("the cases can be read").swap_remove(0);
     let expected = String::from_utf8_lossy(&example.expected).into_owned();
     assert!(expected.contains(line), "{line} is part of the output");
-    check_printed(&example.text, expected.replace(line, by).as_bytes())
+    check_printed::<DAY_FILE>(&example.text, expected.replace(line, by).as_bytes())
 }
 
 #[test]
@@ -37,5 +39,54 @@ fn faulty_outputs_are_found() {
     ];
     for (line, by) in faults {
         assert!(altered(line, by).is_err(), "{line} replaced by {by}");
+    }
+}
+
+/// Two closing orders wait where the lines of the end are shown; then they
+/// trade.
+const SCRIPT_TEXT: &str = "H,1,1,1\nS,0,10,5\nR,0,0,30000\nD,0,0,200\nL,0,0,95,10,K\n\
+                           B,0,0,95,10,K\nC\nP,0,B,0,3\nP,0,L,0,2\nSHOW\nLENT,0\nZ\n";
+
+fn altered_script(line: &str, by: &str) -> Result<(), String> {
+    let output = script_output(SCRIPT_TEXT.as_bytes());
+    let output = String::from_utf8_lossy(&output);
+    assert!(output.contains(line), "{line} is part of {output}");
+    let altered = output.replacen(line, by, 1);
+    check_printed::<SCRIPT>(SCRIPT_TEXT.as_bytes(), altered.as_bytes())
+}
+
+#[test]
+fn the_script_adds_up() {
+    assert_eq!(altered_script("CODES,4\n", "CODES,4\n"), Ok(()));
+}
+
+#[test]
+fn faulty_outputs_of_scripts_are_found() {
+    let faults = [
+        ("A,10,0,0,0,0,0,0\n", "A,10,19,0,0,0,0,0\n"),
+        ("A,11,0,0,0,0,0,0\n", "A,11,0,0,1,0,0,0\n"),
+        ("A,12,2,0,0,0,0,0\n", "A,12,6,0,0,0,0,0\n"),
+        ("A,6,0,0,2,10,0,1\n", "A,6,0,0,3,10,0,1\n"),
+        ("M,0,0,27150,2850\n", "M,0,0,30000,0\n"),
+        ("Q,0,0,180,20\n", "Q,0,0,200,0\n"),
+        ("PHASE,closing\n", "PHASE,closed\n"),
+        ("PHASE,closing\n", "PHASE,close\n"),
+        ("PHASE,closing\n", ""),
+        ("TURNOVER,0,100,9500\n", "TURNOVER,0,101,9500\n"),
+        ("TURNOVER,0,100,9500\n", "TURNOVER,0,100,9501\n"),
+        ("TURNOVER,0,100,9500\n", "TURNOVER,1,100,9500\n"),
+        ("CODES,4\n", "CODES,3\n"),
+        ("WAITS,0,3,B,0,3,P,0\n", "WAITS,0,3,B,0,2,P,0\n"),
+        ("WAITS,0,3,B,0,3,P,0\n", "WAITS,0,3,L,0,3,P,0\n"),
+        ("WAITS,0,3,B,0,3,P,0\n", "WAITS,0,3,B,0,3,P,95\n"),
+        ("WAITS,0,3,B,0,3,P,0\n", "WAITS,0,3,B,0,3,K,95\n"),
+        ("WAITS,0,4,L,0,2,P,0\n", ""),
+        (
+            "WAITS,0,4,L,0,2,P,0\n",
+            "WAITS,0,4,L,0,2,P,0\nWAITS,0,5,L,0,2,P,0\n",
+        ),
+    ];
+    for (line, by) in faults {
+        assert!(altered_script(line, by).is_err(), "{line} replaced by {by}");
     }
 }

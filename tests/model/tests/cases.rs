@@ -1,13 +1,25 @@
 //! The model prints what the cases expect, and the book agrees with it.
 
-use model::cases::{cases, Case};
+use model::cases::{cases, script_cases, Case};
 use model::check::checked_output;
+use model::level::{DAY_FILE, SCRIPT};
 use model::tally::Tally;
 
 #[test]
-fn every_case_prints_what_is_expected() -> Result<(), String> {
-    for case in cases()? {
-        let output = checked_output(&case.text, &mut Tally::default());
+fn every_day_file_prints_what_is_expected() -> Result<(), String> {
+    assert_expected::<DAY_FILE>(&cases()?);
+    Ok(())
+}
+
+#[test]
+fn every_script_prints_what_is_expected() -> Result<(), String> {
+    assert_expected::<SCRIPT>(&script_cases()?);
+    Ok(())
+}
+
+fn assert_expected<const LEVEL: u8>(cases: &[Case]) {
+    for case in cases {
+        let output = checked_output::<LEVEL>(&case.text, &mut Tally::default());
         let printed = output.unwrap_or_else(|fault| panic!("{}: {fault}", case.name));
         let printed = String::from_utf8_lossy(&printed);
         let expected = String::from_utf8_lossy(&case.expected);
@@ -17,7 +29,6 @@ fn every_case_prints_what_is_expected() -> Result<(), String> {
             case.name
         );
     }
-    Ok(())
 }
 
 /// No day file lends an unsound state (1) or too short a list (2), and none

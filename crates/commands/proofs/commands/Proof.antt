@@ -9,15 +9,16 @@ use borrow.Author.Needs.{needs}
 use Rattle.market.specs.declared.Carried.{Carried}
 use Rattle.market.specs.declared.OrderBook.{OrderBook}
 use Rattle.market.specs.declared.Phase.{Phase}
-use Rattle.market.specs.Limits.{lentAtLeast}
+use Rattle.market.specs.Limits.{lentAtLeast, maxSecurities}
 use Rattle.market.specs.View.{dayOf}
 use Rattle.commands.specs.Command.{Does, carried}
 use Rattle.commands.specs.declared.Stand.{Stand}
 use Rattle.commands.specs.Stand.{Onward, room}
 use Rattle.commands.proofs.Placing.{command-next, lines-few, onward-none, onward-then}
 use Rattle.commands.proofs.Carrying.{goes-on-both}
-use Rattle.commands.proofs.Loop.{askable, can-enter, does-answered, does-enter, does-other}
-use Rattle.commands.proofs.Loop.{does-refuse, meet, other-ready}
+use Rattle.commands.proofs.Loop.{askable, can-append, can-enter, can-leave, does-answered, does-append}
+use Rattle.commands.proofs.Loop.{does-cancel, does-decline, does-enter, does-other, does-refuse, known-security}
+use Rattle.commands.proofs.Loop.{meet, other-ready}
 use Rattle.orders.proofs.Calling.{few-lots}
 use Rattle.commands.proofs.commands.Statement.{statement}
 use Rattle.commands.proofs.commands.Tie as tie
@@ -26,13 +27,13 @@ abbrev stand : OrderBook → Phase → ℕ → ℕ → ℕ → Stand
 stand book phase at line filled = record { book = book; phase = phase; at = at; line = line; filled = filled }
 
 abbrev Inv-loop : tie.InvT-loop
-Inv-loop text rules money₀ pieces₀ out₀ trades₀ book₀ phase₀ at₀ line₀ filled₀ money pieces out trades book phase at line filled =
+Inv-loop text rules money₀ pieces₀ out₀ trades₀ table book₀ phase₀ at₀ line₀ filled₀ money pieces out trades book phase at line filled =
     Onward text rules money₀ pieces₀ (stand book₀ phase₀ at₀ line₀ filled₀) out₀ money pieces
     (stand book phase at line filled) out
     × (length trades ≡ lentAtLeast) × (room ≤ length out)
 
 abbrev μ-loop : tie.MeasureT-loop
-μ-loop text rules money₀ pieces₀ out₀ trades₀ book₀ phase₀ at₀ line₀ filled₀ money pieces out trades book phase at line filled =
+μ-loop text rules money₀ pieces₀ out₀ trades₀ table book₀ phase₀ at₀ line₀ filled₀ money pieces out trades book phase at line filled =
     length text - at
 
 -- the loop's own place
@@ -41,7 +42,7 @@ looped w = w .before .before .before .before .before .before .before
 
 loop-holds : tie.Need-loop-holds Inv-loop μ-loop
 loop-holds c =
-    let b = c .before .before .before in
+    let b = c .before .before .before .before in
     (onward-none _ _ _ _ _ _ (b .pre .0) (b .pre .1 .1), refl, b .pre .1 .0)
 
 goes-on-requires : tie.Need-goes-on-requires Inv-loop μ-loop
@@ -85,6 +86,62 @@ enter-requires c κs =
 enum-known-verdict-3 : tie.Need-enum-known-verdict-3 Inv-loop μ-loop
 enum-known-verdict-3 c = search needs
 
+find-requires : tie.Need-find-requires Inv-loop μ-loop
+find-requires c κs =
+    let l = looped (c .before .before .before) in
+    (few-lots _ _ _ _ _ (l .loop .inv .0 .going .ready)) .room
+
+enum-known-found : tie.Need-enum-known-found Inv-loop μ-loop
+enum-known-found c = search needs
+
+-- the search found the order
+listed : (c : tie.After-known-told4 Inv-loop μ-loop) → c .before .found .given .0 .1 .0 < maxSecurities
+listed c =
+    let f = c .before .before .before in
+    let v = f .before .before in
+    let w = v .before .before in
+    let g = w .before .before .before .before .command-at .result in
+    let l = looped w in
+    known-security (g .says) (g .members) _ _ _ _ (l .loop .book) (l .loop .trades) (l .loop .inv .0 .going .ready) (l .loop .inv .1)
+    _ _ _ _ _ (w .without-orders .ensures) (v .verdict3 .given .1) (f .find .ensures .0) (f .find .ensures .1)
+    (c .before .found .given .1)
+
+mul-row : tie.Need-mul-row Inv-loop μ-loop
+mul-row c = omega (arith, listed c)
+
+array-copy-out-row : tie.Need-array-copy-out-row Inv-loop μ-loop
+array-copy-out-row c = listed c
+
+leave-requires : tie.Need-leave-requires Inv-loop μ-loop
+leave-requires c κs =
+    let k = c .before .before .before in
+    let f = k .before .before .before in
+    let v = f .before .before in
+    let w = v .before .before in
+    let g = w .before .before .before .before .command-at .result in
+    let l = looped w in
+    can-leave (g .says) (g .members) _ _ _ _ (l .loop .book) (l .loop .trades) (l .loop .inv .0 .going .ready) (l .loop .inv .1)
+    _ _ _ _ _ (w .without-orders .ensures) (v .verdict3 .given .1) (f .find .ensures .0) (f .find .ensures .1)
+    (k .before .found .given .1)
+
+enum-told : tie.Need-enum-told Inv-loop μ-loop
+enum-told c = search needs
+
+enum-known-verdict-4 : tie.Need-enum-known-verdict-4 Inv-loop μ-loop
+enum-known-verdict-4 c = search needs
+
+append-requires : tie.Need-append-requires Inv-loop μ-loop
+append-requires c κs =
+    let v = c .before .before .before in
+    let w = v .before .before in
+    let g = w .before .before .before .before .command-at .result in
+    let l = looped w in
+    can-append (g .says) (g .members) _ _ _ _ (l .loop .book) (l .loop .trades) (l .loop .inv .0 .going .ready) (l .loop .inv .1)
+    _ _ _ _ _ (w .without-orders .ensures) (v .verdict4 .given .1)
+
+enum-known-verdict-5 : tie.Need-enum-known-verdict-5 Inv-loop μ-loop
+enum-known-verdict-5 c = search needs
+
 slice-aggregate-carry-out : tie.Need-slice-aggregate-carry-out Inv-loop μ-loop
 slice-aggregate-carry-out c =
     let l = looped (c .before .before .before .before .before .before .before) in
@@ -97,14 +154,14 @@ carry-out-requires c κs =
     let g = w .before .before .before .before .command-at .result in
     let l = looped w in
     other-ready (g .says) (g .members) _ _ _ _ (l .loop .book) (l .loop .trades) (l .loop .inv .0 .going .ready) (l .loop .inv .1)
-    _ _ _ _ (w .without-orders .ensures) (v .verdict3 .given .1)
+    _ _ _ _ (w .without-orders .ensures) (v .verdict5 .given .1)
 
 -- what the command did, with these positions, this list and this outcome after it
 abbrev Did : tie.After-without-orders Inv-loop μ-loop → List ℕ → List ℕ → List ℕ → Carried → Type 0
 Did w m k t o =
     let l = looped w in
     let g = w .before .before .before .before .command-at .result in
-    let r = l .before .before .before .before .args .rules in
+    let r = l .before .before .before .before .before .args .rules in
     Does (carried (dayOf r (l .loop .phase) (l .loop .money) (l .loop .pieces) (l .loop .book)) (g .says) (g .members)) r
     (l .loop .trades) m k t o
 
@@ -133,10 +190,25 @@ joined c =
     meet (Did w) (a .5) (a .6) (a .7) (a .8) (a .9) (a .10)
     (does-refuse (g .says) (g .members) _ _ _ _ _ (l .loop .trades) ready lent _ _ _ _ _ _ asks (a .1 .given .1)
     (sym (a .3 .ensures) ∙ a .4 .left)))
+    (⊎-elim
+    (λ a.
+    meet (Did w) (a .11) (a .12) (a .13) (a .14) (a .15) (a .16)
+    (does-cancel (g .says) (g .members) _ _ _ _ _ (l .loop .trades) ready lent _ _ _ _ _ asks (a .1 .given .1) (a .3 .ensures .0)
+    (a .3 .ensures .1) (a .5 .given .1) _ _ _ (a .10 .ensures)))
+    (⊎-elim
+    (λ a.
+    meet (Did w) (a .6) (a .7) (a .8) (a .9) (a .10) (a .11)
+    (does-decline (g .says) (g .members) _ _ _ _ _ (l .loop .trades) ready lent _ _ _ _ _ asks (a .1 .given .1)
+    (a .3 .ensures .0) (a .5 .given .1)))
+    (⊎-elim
+    (λ a.
+    meet (Did w) (a .6) (a .7) (a .8) (a .9) (a .10) (a .11)
+    (does-append (g .says) (g .members) _ _ _ _ _ (l .loop .trades) ready lent _ _ _ _ _ asks (a .1 .given .1) _ _ _
+    (a .5 .ensures)))
     (λ a.
     meet (Did w) (a .10) (a .11) (a .12) (a .13) (a .14) (a .15)
     (does-other (g .says) (g .members) _ _ _ _ _ (l .loop .trades) ready lent _ _ _ _ asks (a .1 .given .1) _ _ _ _
-    (a .7 .ensures)))))
+    (a .7 .ensures))))))))
     (c .match .came)
 
 slice-aggregate-put-command : tie.Need-slice-aggregate-put-command Inv-loop μ-loop
@@ -147,7 +219,7 @@ slice-aggregate-put-command c =
 -- there is a command, and room for it
 goes : (w : tie.After-without-orders Inv-loop μ-loop) →
     let l = looped w in
-    (l .loop .at < length (l .before .before .before .before .args .text .now)) × (l .loop .filled + room ≤ length (l .loop .out))
+    (l .loop .at < length (l .before .before .before .before .before .args .text .now)) × (l .loop .filled + room ≤ length (l .loop .out))
 goes w =
     let t = w .before .before .before .before .before in
     goes-on-both _ _ _ _ (sym (t .before .goes-on .ensures) ∙ t .if1 .taken)
@@ -207,6 +279,15 @@ commands-spec =
     slice-aggregate-enter
     enter-requires
     enum-known-verdict-3
+    find-requires
+    enum-known-found
+    mul-row
+    array-copy-out-row
+    leave-requires
+    enum-told
+    enum-known-verdict-4
+    append-requires
+    enum-known-verdict-5
     slice-aggregate-carry-out
     carry-out-requires
     slice-aggregate-put-command

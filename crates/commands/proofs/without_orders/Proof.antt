@@ -1,5 +1,8 @@
 -- `commands::without_orders` meets its contract, by what the line says.
+use mathlib.Core.Path.{refl}
 use borrow.Author.Needs.{needs}
+use Rattle.calls.proofs.Lists.{any-list, cancel-listless}
+use Rattle.orders.proofs.Cancelling.{cancel-unknown}
 use Rattle.commands.specs.Command.{carried}
 use Rattle.commands.proofs.Carrying.{does-call, does-wrong, no-call}
 use Rattle.commands.proofs.without_orders.Statement.{statement}
@@ -40,8 +43,36 @@ returns-3 c =
     let k = c .before .before .before .before in
     rw (k .before .before .before .before .says .given .1, k .call2 .given .1) (c .order-asked .ensures)
 
+enum-known-call-3 : tie.Need-enum-known-call-3
+enum-known-call-3 c = search needs
+
 returns-4 : tie.Need-returns-4
-returns-4 c = search needs
+unfolding carried
+returns-4 c =
+    let k = c .before .before .before in
+    λ b l ms e1 e2 e3 ready n.
+    rw (k .before .before .before .before .before .says .given .1, k .call3 .given .1)
+    (does-call _ _ _ _ b l _ _ _ l _ ready n
+    (any-list _ _ _ _ b l _ (cancel-listless _ _) _ _ _ (cancel-unknown _ _ _ _ b _ _ ready (c .if1 .taken))))
+
+returns-5 : tie.Need-returns-5
+returns-5 c =
+    let k = c .before .before .before in
+    (refl, refl, rw (k .before .before .before .before .before .says .given .1, k .call3 .given .1) refl, c .if1 .left)
+
+enum-known-call-4 : tie.Need-enum-known-call-4
+enum-known-call-4 c = search needs
+
+closing-asked-requires : tie.Need-closing-asked-requires
+closing-asked-requires c κs = search needs
+
+returns-6 : tie.Need-returns-6
+returns-6 c =
+    let k = c .before .before .before .before in
+    rw (k .before .before .before .before .before .before .says .given .1, k .call4 .given .1) (c .closing-asked .ensures)
+
+returns-7 : tie.Need-returns-7
+returns-7 c = search needs
 
 pub without-orders-spec : {M : Type 1} → statement M
 without-orders-spec =
@@ -56,4 +87,10 @@ without-orders-spec =
     enum-known-call-2
     order-asked-requires
     returns-3
-    returns-4)
+    enum-known-call-3
+    returns-4
+    returns-5
+    enum-known-call-4
+    closing-asked-requires
+    returns-6
+    returns-7)

@@ -31,9 +31,17 @@ loop-holds c =
 write-first-requires : tie.Need-write-first-requires Inv-loop μ-loop
 write-first-requires c κs = c .before .before .before .loop .inv .2
 
+same-length : tie.Need-same-length Inv-loop μ-loop
+same-length c =
+    let l = c .before .before .before .before .before in
+    l .loop .inv .3 ∙ l .before .before .before .begin .ensures .size
+
+returns : tie.Need-returns Inv-loop μ-loop
+returns c = search needs
+
 resume-requires : tie.Need-resume-requires Inv-loop μ-loop
 resume-requires c κs =
-    let goes = c .before .before .before in
+    let goes = c .before .before .before .before in
     let l = goes .before .before in
     let still = fails refl (goes .if1 .taken) in
     let g = l .loop .inv .0 still in
@@ -46,7 +54,7 @@ loop-less c = c .before .before .resume .ensures .continues .less
 loop-again : tie.Need-loop-again Inv-loop μ-loop
 loop-again c =
     let k = c .before .before in
-    let l = k .before .before .before .before .before .before in
+    let l = k .before .before .before .before .before .before .before in
     let h = k .resume .ensures .continues in
     let enough = l .loop .inv .1 in
     let size = h .size in
@@ -55,13 +63,13 @@ loop-again c =
 write-first-requires-2 : tie.Need-write-first-requires-2 Inv-loop μ-loop
 write-first-requires-2 c κs = c .before .before .before .loop .inv .2
 
-same-length : tie.Need-same-length Inv-loop μ-loop
-same-length c =
+same-length-2 : tie.Need-same-length-2 Inv-loop μ-loop
+same-length-2 c =
     let l = c .before .before .before .before in
     l .loop .inv .3 ∙ l .before .before .before .begin .ensures .size
 
-returns : tie.Need-returns Inv-loop μ-loop
-returns c = search needs
+returns-2 : tie.Need-returns-2 Inv-loop μ-loop
+returns-2 c = search needs
 
 pub print-parts-spec : {M : Type 1} → statement M
 print-parts-spec =
@@ -72,9 +80,11 @@ print-parts-spec =
     begin-requires
     loop-holds
     write-first-requires
+    same-length
+    returns
     resume-requires
     loop-less
     loop-again
     write-first-requires-2
-    same-length
-    returns)
+    same-length-2
+    returns-2)

@@ -31,7 +31,10 @@ loop-again c = search needs
 returns : tie.Need-returns Inv-loop μ-loop
 returns c = search needs
 
+returns-2 : tie.Need-returns-2 Inv-loop μ-loop
+returns-2 c = search needs
+
 pub main-spec : {M : Type 1} → statement M
 main-spec =
     tie.close
-    (tie.spec Inv-loop μ-loop arg-count-requires loop-holds run-argument-requires add-i loop-less loop-again returns)
+    (tie.spec Inv-loop μ-loop arg-count-requires loop-holds run-argument-requires add-i loop-less loop-again returns returns-2)

@@ -3,12 +3,9 @@ use native.Mathlib.Omega.{arith}
 use mathlib.Core.Path.{refl}
 use borrow.Author.Needs.{needs}
 use Rattle.amounts.proofs.Answers.{fails, holds}
-use Rattle.dayfile.proofs.Whole.{begins-then, prints-none, prints-over, prints-small}
+use Rattle.dayfile.proofs.Whole.{begins-room, begins-then, prints-none, prints-over}
 use Rattle.dayfile.proofs.whole_day.Statement.{statement}
 use Rattle.dayfile.proofs.whole_day.Tie as tie
-
-returns : tie.Need-returns
-returns c = prints-small _ _ (c .if1 .taken)
 
 begin-requires : tie.Need-begin-requires
 begin-requires c κs = search needs
@@ -16,65 +13,66 @@ begin-requires c κs = search needs
 same-length : tie.Need-same-length
 same-length c = search needs
 
-returns-2 : tie.Need-returns-2
-returns-2 c = prints-over (c .before .before .before .begin .ensures) (c .if2 .taken)
+returns : tie.Need-returns
+returns c = prints-over (c .before .before .before .begin .ensures) (c .if1 .taken)
 
-sub-if3 : tie.Need-sub-if3
-sub-if3 c = search needs
+sub-if2 : tie.Need-sub-if2
+sub-if2 c =
+    let begins = c .before .before .before .begin .ensures in
+    omega (arith, begins-room begins (c .if1 .left), begins .size)
 
 same-length-2 : tie.Need-same-length-2
 same-length-2 c = search needs
 
-returns-3 : tie.Need-returns-3
-returns-3 c =
-    let k = c .before .before .before .before .before in
-    let past = c .if3 .taken in
-    let enough = k .before .before .if1 .left in
-    let size = k .begin .ensures .size in
-    prints-none (k .begin .ensures) (omega (arith, past, enough, size))
+returns-2 : tie.Need-returns-2
+returns-2 c =
+    let goes = c .before .before in
+    let begins = goes .before .before .before .begin .ensures in
+    prints-none begins (goes .if1 .left)
+    (omega (arith, c .if2 .taken, begins-room begins (goes .if1 .left), begins .size))
 
 resume-requires : tie.Need-resume-requires
 resume-requires c κs =
     let e = c .before in
     let goes = e .before .before in
-    let k = goes .before .before .before in
-    let past = e .if3 .left in
-    let enough = k .before .before .if1 .left in
-    let size = k .begin .ensures .size in
-    (k .begin .ensures .going (goes .if2 .left), (goes .if2 .left, omega (arith, past, enough, size)))
+    let begins = goes .before .before .before .begin .ensures in (
+      begins .going (goes .if1 .left),
+      (goes .if1 .left, omega (arith, e .if2 .left, begins-room begins (goes .if1 .left), begins .size)),
+    )
 
 same-length-3 : tie.Need-same-length-3
 same-length-3 c = search needs
 
-returns-4 : tie.Need-returns-4
-returns-4 c =
+returns-3 : tie.Need-returns-3
+returns-3 c =
     let k = c .before .before .before .before in
-    let b = k .before .before .before .before .before .before .before in
-    prints-none (begins-then (b .begin .ensures) (k .resume .ensures .continues))
-    (k .resume .ensures .full (fails refl (c .if4 .taken)))
+    let goes = k .before .before .before .before in
+    let still = fails refl (c .if3 .taken) in
+    prints-none (begins-then (goes .before .before .before .begin .ensures) (goes .if1 .left) (k .resume .ensures .continues))
+    still (k .resume .ensures .full still)
 
 same-length-4 : tie.Need-same-length-4
 same-length-4 c = search needs
 
-returns-5 : tie.Need-returns-5
-returns-5 c =
+returns-4 : tie.Need-returns-4
+returns-4 c =
     let k = c .before .before .before .before in
-    let b = k .before .before .before .before .before .before .before in
-    prints-over (begins-then (b .begin .ensures) (k .resume .ensures .continues)) (holds refl (c .if4 .left))
+    let goes = k .before .before .before .before in
+    prints-over (begins-then (goes .before .before .before .begin .ensures) (goes .if1 .left) (k .resume .ensures .continues))
+    (holds refl (c .if3 .left))
 
 pub whole-day-spec : {M : Type 1} → statement M
 whole-day-spec =
     tie.close
     (tie.spec
-    returns
     begin-requires
     same-length
-    returns-2
-    sub-if3
+    returns
+    sub-if2
     same-length-2
-    returns-3
+    returns-2
     resume-requires
     same-length-3
-    returns-4
+    returns-3
     same-length-4
-    returns-5)
+    returns-4)

@@ -70,7 +70,7 @@ loop-again c =
     let l = e .before in
     let inv = l .before .loop .inv in
     passed-next inv (l .loop-test .taken) (e .if1 .left) (call .command-at .ensures) (told .before .says .given .1)
-    (⊎-elim (λ w. w .1) (λ w. w .1 ∙ sym (set-out _ _ _ (omega (arith, inv .places, w .0 .left)))) (c .if2 .came))
+    (⊎-elim (λ w. w .1) (λ w. w .1 ∙ sym (set-out _ _ _ (omega (arith, inv .cells, w .0 .left)))) (c .if2 .came))
 
 returns-3 : tie.Need-returns-3 Inv-loop μ-loop
 returns-3 c = passed-end (c .before .loop .inv) (c .loop-test .left)

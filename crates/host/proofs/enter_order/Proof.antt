@@ -64,8 +64,8 @@ abbrev stayed : Stays (this.ended .signature .params) (this.ended .kept)
 stayed = (stay-none (λ _. S.the-row) yes, P.stays 1 0 tt)
 
 -- the contract that the proof cites
-abbrev Place : {M : Type 1} (𝓤 : URA M) (H : Heap 𝓤) (A : Atoms 𝓤) (mem : Memory → SProp 𝓤) (run : Routine → Fun 𝓤) → Contract 𝓤
-Place 𝓤 H A mem run = tripleOf 𝓤 H A place.signature (place.spec 𝓤 H A mem run)
+abbrev Index : {M : Type 1} (𝓤 : URA M) (H : Heap 𝓤) (A : Atoms 𝓤) (mem : Memory → SProp 𝓤) (run : Routine → Fun 𝓤) → Contract 𝓤
+Index 𝓤 H A mem run = tripleOf 𝓤 H A place.signature (place.spec 𝓤 H A mem run)
 
 module _ {M : Type 1} (𝓤 : URA M) (H : Heap 𝓤) (A : Atoms 𝓤) (W : Given 𝓤 H A) (at-mem : Memory → SProp 𝓤) (run : Routine → Fun 𝓤) (κ : Lft) (q : Share) (h : State) (x : P.Rest) (g : Is S.the-row h (P.machine h ∷ [])) (facts : P.Facts 1 0 tt (κ, tt) x) where
   -- the parameters' values, and their machine values
@@ -94,10 +94,10 @@ module _ {M : Type 1} (𝓤 : URA M) (H : Heap 𝓤) (A : Atoms 𝓤) (W : Given
   abbrev words : (ν l : ℕ) → Valss (MutRef (named 0) (ν ∷ []) S.the-row ∷ P.rows 2 1 tt (ν ∷ [], (κ, tt)))
   words ν l = (vptr l 0 ∷ [], P.vals 2 1 tt (ν ∷ [], (κ, tt)) x)
 
-  abbrev to : ℕ → ℕ → GName → Place 𝓤 H A at-mem run .Ghost
+  abbrev to : ℕ → ℕ → GName → Index 𝓤 H A at-mem run .Ghost
   to ν l δ = (((ν ∷ [], (κ, tt)), (fullShare, (q, tt)), tt, passed l δ, words ν l), tt)
 
-  goes : (ν l : ℕ) (δ : GName) → ent 𝓤 (⋆ 𝓤 H A ((‵ (flft (ν ∷ []) fullShare) ⊛ (‵ (flft κ q) ⊛ ‵ ftrue)) ∷ ‵ (owns (MutRef (named 0) (ν ∷ []) S.the-row ∷ P.rows 2 1 tt (ν ∷ [], (κ, tt))) (passed l δ) (words ν l)) ∷ [])) (Place 𝓤 H A at-mem run .pre (to ν l δ))
+  goes : (ν l : ℕ) (δ : GName) → ent 𝓤 (⋆ 𝓤 H A ((‵ (flft (ν ∷ []) fullShare) ⊛ (‵ (flft κ q) ⊛ ‵ ftrue)) ∷ ‵ (owns (MutRef (named 0) (ν ∷ []) S.the-row ∷ P.rows 2 1 tt (ν ∷ [], (κ, tt))) (passed l δ) (words ν l)) ∷ [])) (Index 𝓤 H A at-mem run .pre (to ν l δ))
   goes ν l δ = qed W ((‵ (flft (ν ∷ []) fullShare) ⊛ (‵ (flft κ q) ⊛ ‵ ftrue)) ∷ ‵ (owns (MutRef (named 0) (ν ∷ []) S.the-row ∷ P.rows 2 1 tt (ν ∷ [], (κ, tt))) (passed l δ) (words ν l)) ∷ []) ∵ join ! $ frame ! $ done !
 
   -- a local's cell is a state in memory, each way
@@ -125,7 +125,7 @@ module _ {M : Type 1} (𝓤 : URA M) (H : Heap 𝓤) (A : Atoms 𝓤) (W : Given
       use1 W (‵ (P.Had 1 0 tt (κ, tt) x zs)) (P.had 1 0 tt 𝓤 H A W (κ, tt) x facts zs) $
       owned ! S.the-row (Is S.the-row) (LL.makes S.the-type S′.the-plain 𝓤 H A) h _ g $ fjoin ! $ owned ! O.the-row (Is O.the-row) (LL.makes O.the-type O′.the-plain 𝓤 H A) (made r t) _ io $ move ! (1 ∷ 0 ∷ []) $ done !
 
-  module _ (C : Calls 𝓤 H) (Λ : Loops 𝓤 H) (fm : FmC 𝓤 H (W .laws) C) (known : Triple 𝓤 (C #host·enter-order-in-place) (Place 𝓤 H A at-mem run)) where
+  module _ (C : Calls 𝓤 H) (Λ : Loops 𝓤 H) (fm : FmC 𝓤 H (W .laws) C) (known : Triple 𝓤 (C #host·enter-order-in-place) (Index 𝓤 H A at-mem run)) where
     walk : ent 𝓤 (onEntry 𝓤 H A this.signature (κ, tt) (q, tt) a vals) (WpFn 𝓤 H C Λ code.function (P.machine h ∷ flat (P.rows 1 0 tt (κ, tt)) (P.vals 1 0 tt (κ, tt) x)) Post)
     walk =
         let typed = P.typed 1 0 tt 𝓤 H A W (κ, tt) x facts in
@@ -141,9 +141,9 @@ module _ {M : Type 1} (𝓤 : URA M) (H : Heap 𝓤) (A : Atoms 𝓤) (W : Given
         -- the local is lent for a new lifetime
         move ! (10 ∷ []) $ use1 W (‵ (partAt S.the-row fullShare h l₉ 0)) (lies-in l₉) $ lft-new ! tt (λ ν. move ! (1 ∷ []) $
         use1 W (later (some (λ (δ : GName). ‵ (MutRef (named 0) (ν ∷ []) S.the-row .own (passed l₉ δ .0) (vptr l₉ 0 ∷ [])) ⊛ ‵ (flent (ν ∷ []) (Body (mem S.the-row) l₉ 0 δ))))) (lends-ref 𝓤 H A W S.the-row (named 0) (ν ∷ []) h l₉ 0) $ await ! tt $ pick ! (λ δ. split ! $
-        move ! (33 ∷ []) $ fsplit ! $ drop ! $ move ! (1 ∷ 0 ∷ []) $ fjoin ! $ move ! (2 ∷ 32 ∷ []) $ join ! $ use2 W (raw (Place 𝓤 H A at-mem run .pre (to ν l₉ δ))) (goes ν l₉ δ) $
+        move ! (33 ∷ []) $ fsplit ! $ drop ! $ move ! (1 ∷ 0 ∷ []) $ fjoin ! $ move ! (2 ∷ 32 ∷ []) $ join ! $ use2 W (raw (Index 𝓤 H A at-mem run .pre (to ν l₉ δ))) (goes ν l₉ δ) $
         -- [what is asked; the lender's part; _14; …; _10; …; what ends _9; _8; …; room for _0; …]
-        calls-at ! fm (Place 𝓤 H A at-mem run) known (to ν l₉ δ)
+        calls-at ! fm (Index 𝓤 H A at-mem run) known (to ν l₉ δ)
         (and-then ! (load ! (from ! (stop !)) (look ! 8 refl)) (and-then ! (load ! (from ! (stop !)) (look ! 25 refl)) (and-then ! (load ! (from ! (stop !)) (look ! 23 refl)) (and-then ! (load ! (from ! (stop !)) (look ! 21 refl))
         (and-then ! (load ! (from ! (stop !)) (look ! 19 refl)) (and-then ! (load ! (from ! (stop !)) (look ! 17 refl)) (and-then ! (load ! (from ! (stop !)) (look ! 15 refl)) (and-then ! (load ! (from ! (stop !)) (look ! 4 refl)) (no-more !))))))))) (λ u.
         use1 W (later (some (λ (r : Answer). ((‵ (flft (ν ∷ []) fullShare) ⊛ (‵ (flft κ q) ⊛ ‵ ftrue)) ⊛ ‵ (R.the-row .own r (u ∷ []))) ⊛ raw (ensured 𝓤 H A place.ended (place.clauses 𝓤 H A at-mem run) (ν ∷ [], (κ, tt)) (passed l₉ δ) tt r)))) (id⊢ 𝓤 _) $ await ! tt $ pick ! (λ r.
@@ -166,7 +166,7 @@ module _ {M : Type 1} (𝓤 : URA M) (H : Heap 𝓤) (A : Atoms 𝓤) (W : Given
         keep ! (0 ∷ 2 ∷ []) $ by ! (exits r (zs .0) (P.list (zs .1)) (whole-of r u (zs .0) is gs) e l)))))))))))))))))))))))))
 
 module _ {M : Type 1} (𝓤 : URA M) (H : Heap 𝓤) (A : Atoms 𝓤) (W : Given 𝓤 H A) (at-mem : Memory → SProp 𝓤) (run : Routine → Fun 𝓤) where
-  this-walks : (C : Calls 𝓤 H) (Λ : Loops 𝓤 H) → FmC 𝓤 H (W .laws) C → Triple 𝓤 (C #host·enter-order-in-place) (Place 𝓤 H A at-mem run) → Walks 𝓤 H A this.ended stayed (WpFn 𝓤 H C Λ code.function) (this.clauses 𝓤 H A at-mem run)
+  this-walks : (C : Calls 𝓤 H) (Λ : Loops 𝓤 H) → FmC 𝓤 H (W .laws) C → Triple 𝓤 (C #host·enter-order-in-place) (Index 𝓤 H A at-mem run) → Walks 𝓤 H A this.ended stayed (WpFn 𝓤 H C Λ code.function) (this.clauses 𝓤 H A at-mem run)
   this-walks C Λ fm known = walked 𝓤 H A this.ended stayed (this.clauses 𝓤 H A at-mem run) (WpFn 𝓤 H C Λ code.function)
       (λ κs. (LL.vals S.the-type S′.the-laws, P.spells 1 0 tt κs))
       (λ κs. (LL.tells S.the-type S′.the-laws, P.tells 1 0 tt κs))
@@ -175,7 +175,7 @@ module _ {M : Type 1} (𝓤 : URA M) (H : Heap 𝓤) (A : Atoms 𝓤) (W : Given
   all-go : AllGo 𝓤 H A W 1 (this.signature .params) (this.ended .kept) stayed
   all-go = (goes-none 𝓤 H A W 1 (λ _. S.the-row) yes (λ κs x f. refl), P.all-go 1 0 tt 𝓤 H A W)
 
-this-meets : {M : Type 1} (𝓤 : URA M) (H : Heap 𝓤) (A : Atoms 𝓤) → Given 𝓤 H A → (at-mem : Memory → SProp 𝓤) (run : Routine → Fun 𝓤) (𝓣 : Tables 𝓤 H) → Triple 𝓤 (𝓣 .C #host·enter-order-in-place) (Place 𝓤 H A at-mem run)
+this-meets : {M : Type 1} (𝓤 : URA M) (H : Heap 𝓤) (A : Atoms 𝓤) → Given 𝓤 H A → (at-mem : Memory → SProp 𝓤) (run : Routine → Fun 𝓤) (𝓣 : Tables 𝓤 H) → Triple 𝓤 (𝓣 .C #host·enter-order-in-place) (Index 𝓤 H A at-mem run)
     → Meets 𝓤 H A this.signature (WpFn 𝓤 H (𝓣 .C) (𝓣 .Λ) code.function) (this.spec 𝓤 H A at-mem run)
 this-meets 𝓤 H A W at-mem run 𝓣 known =
     walk-meets 𝓤 H A this.ended stayed W (all-go 𝓤 H A W at-mem run) (this.clauses 𝓤 H A at-mem run)
@@ -187,4 +187,4 @@ enter-order-spec 𝓤 H 𝓜 𝓖 𝓡 =
     entered 𝓤 H (tripleOf 𝓤 H (𝓖 .A) this.signature (this.spec 𝓤 H (𝓖 .A) (𝓜 .mem) (𝓡 .run)))
     (tables 𝓤 H 𝓜 𝓡 code.env .C) (tables 𝓤 H 𝓜 𝓡 code.env .Λ) #host·enter-order code.function (code.unfolded 𝓤 H 𝓜 𝓡)
     (this-meets 𝓤 H (𝓖 .A) (givenOf 𝓤 H 𝓜 𝓖) (𝓜 .mem) (𝓡 .run) (tablesOf 𝓤 H 𝓜 (tables 𝓤 H 𝓜 𝓡 code.env))
-    (cited 𝓤 H (Place 𝓤 H (𝓖 .A) (𝓜 .mem) (𝓡 .run)) 𝓜 𝓡 code.env #host·enter-order-in-place place-def.routine code.calls-host·enter-order-in-place (place-thm.met 𝓤 H 𝓜 𝓖 𝓡)))
+    (cited 𝓤 H (Index 𝓤 H (𝓖 .A) (𝓜 .mem) (𝓡 .run)) 𝓜 𝓡 code.env #host·enter-order-in-place place-def.routine code.calls-host·enter-order-in-place (place-thm.met 𝓤 H 𝓜 𝓖 𝓡)))

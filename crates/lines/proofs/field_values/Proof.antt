@@ -8,7 +8,7 @@ use lib.ListN.{getD, length}
 use Rattle.lines.specs.declared.Value.the-variants.{Good}
 use Rattle.lines.specs.Line.{value}
 use Rattle.lines.proofs.Finding.{between}
-use Rattle.lines.proofs.Fields.{Left, partAt, ended, good-field, has-place, not-comma, wrong-field}
+use Rattle.lines.proofs.Fields.{Left, partAt, ended, good-field, has-index, not-comma, wrong-field}
 use Rattle.lines.proofs.field_values.Statement.{statement}
 use Rattle.lines.proofs.field_values.Tie as tie
 
@@ -95,17 +95,17 @@ good c =
     let of = field .before .before .part-of .ensures in
     cc (told, is, of)
 
-place : (c : Known) → (turn c) .loop .i < 5
-place c = has-place (letter-of c) ((turn c) .loop .i) (c .before .value .given .0 .0) (field-of c) (good c)
+index : (c : Known) → (turn c) .loop .i < 5
+index c = has-index (letter-of c) ((turn c) .loop .i) (c .before .value .given .0 .0) (field-of c) (good c)
 
 mul-list : tie.Need-mul-list Inv-loop μ-loop
-mul-list c = omega (arith, place c)
+mul-list c = omega (arith, index c)
 
 array-write-list : tie.Need-array-write-list Inv-loop μ-loop
-array-write-list c = place c
+array-write-list c = index c
 
 add-i : tie.Need-add-i Inv-loop μ-loop
-add-i c = omega (arith, place c)
+add-i c = omega (arith, index c)
 
 loop-less : tie.Need-loop-less Inv-loop μ-loop
 loop-less c = search needs

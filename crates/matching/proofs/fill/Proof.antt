@@ -17,64 +17,82 @@ use Rattle.market.proofs.Fill.{fill-full, fill-none}
 use Rattle.market.proofs.Sized.{sized-book}
 use Rattle.matching.specs.Filling.{Flies, openDay}
 use Rattle.matching.specs.Orders.{coded, waitingIn}
-use Rattle.matching.specs.Search.{bestOf}
+use Rattle.matching.specs.Search.{rank, top}
 use Rattle.matching.proofs.First.{first-at}
 use Rattle.matching.proofs.Going.{Going, best-lots, found-price, going-ends, going-lent, going-less, going-next}
-use Rattle.matching.proofs.Going.{going-place, going-ready, going-room, going-security, going-starts}
+use Rattle.matching.proofs.Going.{going-index, going-ready, going-room, going-security, going-starts}
 use Rattle.matching.proofs.Removal.{Moved, Off, moved-next, moved-starts, off-filled, off-less}
-use Rattle.matching.proofs.Search.{Searched, search-ends, search-starts, search-step}
+use Rattle.matching.proofs.Search.{Seeks, rank-below, seek-found, seek-none, seek-starts, seek-stays, seek-takes}
 use Rattle.matching.proofs.fill.Statement.{statement}
 use Rattle.matching.proofs.fill.Tie as tie
 
 abbrev Inv-search : tie.InvT-search
-Inv-search e row money pieces trades book security left made count best₀ i₀ best i =
-    Searched e (book .orders) count i best
+Inv-search e row money pieces trades book security left made side reach count best₀ bound₀ i₀ best bound i =
+    Seeks e (book .orders) reach count i best bound
 
 abbrev μ-search : tie.MeasureT-search
-μ-search e row money pieces trades book security left made count best₀ i₀ best i = count - i
+μ-search e row money pieces trades book security left made side reach count best₀ bound₀ i₀ best bound i = count - i
 
 abbrev Inv-loop : tie.InvT-loop
-Inv-loop e row money pieces trades book₀ security left made count i at lots last j₀ book j =
+Inv-loop e row money pieces trades book₀ security left made side reach count best bound i at lots last j₀ book j =
     (book .turnover ≡ book₀ .turnover) × Moved (book₀ .orders) (book .orders) at last j
 
 abbrev μ-loop : tie.MeasureT-loop
-μ-loop e row money pieces trades book₀ security left made count i at lots last j₀ book j = last - j
+μ-loop e row money pieces trades book₀ security left made side reach count best bound i at lots last j₀ book j = last - j
 
 abbrev Inv-fill : tie.InvT-fill
-Inv-fill e row money₀ pieces₀ trades₀ book₀ security left₀ made₀ money pieces trades book left made =
+Inv-fill e row money₀ pieces₀ trades₀ book₀ security left₀ made₀ side reach money pieces trades book left made =
     (length (book .orders) ≡ maxWaiting)
     × ((r : Rules) → Flies r row (coded book₀ e) e money₀ pieces₀
     → Going (record { r = r; l = row; e = e; m = money₀; k = pieces₀; b = coded book₀ e; v = trades₀ }) money pieces trades
     (coded book e) left made)
 
 abbrev μ-fill : tie.MeasureT-fill
-μ-fill e row money₀ pieces₀ trades₀ book₀ security left₀ made₀ money pieces trades book left made = book .count + left
+μ-fill e row money₀ pieces₀ trades₀ book₀ security left₀ made₀ side reach money pieces trades book left made = book .count + left
+
+price-of-requires : tie.Need-price-of-requires Inv-search μ-search Inv-loop μ-loop Inv-fill μ-fill
+price-of-requires c κs = tt
+
+rank-requires : tie.Need-rank-requires Inv-search μ-search Inv-loop μ-loop Inv-fill μ-fill
+rank-requires c κs = tt
+
+-- the place where the rank of the entry's price is known
+abbrev Begun : Type 0
+Begun = tie.After-rank Inv-search μ-search Inv-loop μ-loop Inv-fill μ-fill
+
+abbrev outset : Begun → tie.Start Inv-search μ-search Inv-loop μ-loop Inv-fill μ-fill
+outset c = c .before .before .before
+
+own-rank : (c : Begun) → let e = (outset c) .args .e in c .rank .result ≡ rank (e .side) (priceOf e)
+own-rank c = c .rank .ensures ∙ ap (rank ((outset c) .args .e .side)) (c .before .price-of .ensures)
+
+add-reach : tie.Need-add-reach Inv-search μ-search Inv-loop μ-loop Inv-fill μ-fill
+add-reach c =
+    let p = (outset c) .pre in
+    omega (arith, own-rank c, rank-below (p .rules) ((outset c) .args .e) (p .flies .flight .entryPriced))
 
 fill-holds : tie.Need-fill-holds Inv-search μ-search Inv-loop μ-loop Inv-fill μ-fill
-fill-holds c = ((sized-book (c .before .args .b) (c .before .good .0)) .orders, λ r f. going-starts _ f)
+fill-holds c = ((sized-book ((outset c) .args .b) ((outset c) .good .0)) .orders, λ r f. going-starts _ f)
 
 search-holds : tie.Need-search-holds Inv-search μ-search Inv-loop μ-loop Inv-fill μ-fill
 search-holds c =
     let b = c .before .fill .book in
-    search-starts (c .before .before .before .args .e) (b .orders) (b .count)
-
-enum-known-best : tie.Need-enum-known-best Inv-search μ-search Inv-loop μ-loop Inv-fill μ-fill
-enum-known-best c = search needs
-
-enum-told : tie.Need-enum-told Inv-search μ-search Inv-loop μ-loop Inv-fill μ-fill
-enum-told c = search needs
+    let k = c .before .before in
+    let p = (outset k) .pre in
+    seek-starts (p .rules) ((outset k) .args .e) (b .orders) _ (b .count) (p .flies .flight .entryPriced)
+    (omega (arith, own-rank k))
 
 -- a turn of the fill under the rules that the caller vouches for
 abbrev Turn : Type 0
 Turn = tie.At-fill Inv-search μ-search Inv-loop μ-loop Inv-fill μ-fill
 
 abbrev going : (c : Turn) →
-    let p = c .before .before .pre in
-    let a = c .before .before .args in
+    let p = (outset (c .before)) .pre in
+    let a = (outset (c .before)) .args in
     let f = c .fill in
     Going (record { r = p .rules; l = a .row; e = a .e; m = a .money .now; k = a .pieces .now; b = coded (a .b) (a .e); v = a .trades .now })
     (f .money) (f .pieces) (f .trades) (coded (f .book) (a .e)) (f .left) (f .made)
-going c = let p = c .before .before .pre in c .fill .inv .1 (p .rules) (p .flies)
+going c = let p = (outset (c .before)) .pre in c .fill .inv .1 (p .rules) (p .flies)
 
 -- the order read by the search stands in the array
 within : (c : tie.Else1 Inv-search μ-search Inv-loop μ-loop Inv-fill μ-fill) → c .before .search .i < maxWaiting
@@ -86,50 +104,69 @@ mul-o c = omega (arith, within c)
 element-copy-out-o : tie.Need-element-copy-out-o Inv-search μ-search Inv-loop μ-loop Inv-fill μ-fill
 element-copy-out-o c = within c
 
-preferred-requires : tie.Need-preferred-requires Inv-search μ-search Inv-loop μ-loop Inv-fill μ-fill
-preferred-requires c κs = tt
+price-of-requires-2 : tie.Need-price-of-requires-2 Inv-search μ-search Inv-loop μ-loop Inv-fill μ-fill
+price-of-requires-2 c κs = tt
+
+rank-requires-2 : tie.Need-rank-requires-2 Inv-search μ-search Inv-loop μ-loop Inv-fill μ-fill
+rank-requires-2 c κs = tt
+
+closer-requires : tie.Need-closer-requires Inv-search μ-search Inv-loop μ-loop Inv-fill μ-fill
+closer-requires c κs = tt
+
+-- the place in the search where the order is read
+abbrev read : tie.Joined3 Inv-search μ-search Inv-loop μ-loop Inv-fill μ-fill
+    → tie.Else1 Inv-search μ-search Inv-loop μ-loop Inv-fill μ-fill
+read c = c .before .before .before .before .before
 
 add-i : tie.Need-add-i Inv-search μ-search Inv-loop μ-loop Inv-fill μ-fill
-add-i c = omega (arith, within (c .before .before))
+add-i c = omega (arith, within (read c))
 
 search-less : tie.Need-search-less Inv-search μ-search Inv-loop μ-loop Inv-fill μ-fill
-search-less c = omega (arith, c .before .before .if1 .left)
+search-less c = omega (arith, (read c) .if1 .left)
 
 search-again : tie.Need-search-again Inv-search μ-search Inv-loop μ-loop Inv-fill μ-fill
 search-again c =
-    search-step (c .before .before .before .search .inv) (c .before .before .if1 .left) (c .preferred .ensures)
+    let k = read c in
+    let l = k .before .search in
+    let turn = k .before .before .before in
+    let p = c .before .before .before .price-of2 in
+    let ranked = c .before .before .rank2 .ensures ∙ ap (rank ((outset (turn .before)) .args .e .side)) (p .ensures) in
+    let low : priceOf (orderAt (turn .fill .book .orders) (l .i)) ≤ top = omega (arith, p .ok, p .ensures) in
+    let answer = sym (c .before .closer .ensures) in
+    ⊎-elim (λ t. rw (t .1, t .2) (seek-takes (l .inv) (k .if1 .left) low ranked (answer ∙ t .0 .taken)))
+    (λ t. rw (t .1, t .2) (seek-stays (l .inv) (k .if1 .left) low ranked (answer ∙ t .0 .left)))
+    (c .if3 .came)
 
 -- the place where the search has found an order, and the turn of the fill that it is in
 abbrev Here : Type 0
-Here = tie.After-known-told Inv-search μ-search Inv-loop μ-loop Inv-fill μ-fill
+Here = tie.Else2 Inv-search μ-search Inv-loop μ-loop Inv-fill μ-fill
 
 abbrev turn : Here → Turn
-turn c = c .before .before .before .before .before .before
+turn c = c .before .before .before .before
 
 abbrev start : Here → tie.Start Inv-search μ-search Inv-loop μ-loop Inv-fill μ-fill
-start c = (turn c) .before .before
+start c = outset ((turn c) .before)
 
 abbrev at : Here → ℕ
-at c = c .before .best .given .0 .0
+at c = c .before .before .search .best
 
 -- the order found is the definition's
 found-at : (c : Here)
     → bestIn ((start c) .args .e) (waitingIn ((turn c) .fill .book))
     ≡ found (at c) (priceOf (orderAt (waitingIn ((turn c) .fill .book)) (at c)))
 found-at c =
-    let e = (start c) .args .e in
-    let l = c .before .before .before .before .search in
-    found-price e (waitingIn ((turn c) .fill .book)) (at c) (c .before .best .given .0 .1 .0)
-    (search-ends (l .inv) (c .before .before .before .if1 .taken) ∙ ap bestOf (c .before .best .given .1))
+    let l = c .before .before .search in
+    let f = seek-found (l .inv) (c .before .if1 .taken) (c .if2 .left) in
+    found-price ((start c) .args .e) (waitingIn ((turn c) .fill .book)) (at c) (f .0) (f .1)
 
 some : (c : Here) → 0 < (turn c) .fill .left
-some c = c .before .before .before .before .before .fill-test .taken
+some c = c .before .before .before .fill-test .taken
 
-place : (c : Here) → at c < (turn c) .fill .book .count
-place c = going-place (going (turn c)) (at c) (some c) (found-at c)
+index : (c : Here) → at c < (turn c) .fill .book .count
+index c = going-index (going (turn c)) (at c) (some c) (found-at c)
 
 inside : (c : Here) → at c < maxWaiting
-inside c = omega (arith, place c, going-room (going (turn c)))
+inside c = omega (arith, index c, going-room (going (turn c)))
 
 known : (c : Here) → (start c) .args .e .security < maxSecurities
 known c = going-security (going (turn c))
@@ -139,7 +176,7 @@ lent c = going-lent (going (turn c)) (at c) (some c) (found-at c) ((start c) .pr
 
 -- the order read is the one that waits there, and the lots of the trade are the definition's
 other : (c : Here) → orderAt ((turn c) .fill .book .orders) (at c) ≡ orderAt (waitingIn ((turn c) .fill .book)) (at c)
-other c = let b = (turn c) .fill .book in sym (first-at (b .count) (b .orders) (at c) (place c))
+other c = let b = (turn c) .fill .book in sym (first-at (b .count) (b .orders) (at c) (index c))
 
 part : (c : tie.After-lesser Inv-search μ-search Inv-loop μ-loop Inv-fill μ-fill) →
     let f = (turn (c .before .before)) .fill in
@@ -200,20 +237,20 @@ counted c =
 roomy : (c : Done) → (counted c) .count ≤ length ((counted c) .orders)
 roomy c = let k = turn (here c) in omega (arith, going-room (going k), k .fill .inv .0)
 
-mul-t31 : tie.Need-mul-t31 Inv-search μ-search Inv-loop μ-loop Inv-fill μ-fill
-mul-t31 c = omega (arith, known ((sized c) .before .before .before))
+mul-t41 : tie.Need-mul-t41 Inv-search μ-search Inv-loop μ-loop Inv-fill μ-fill
+mul-t41 c = omega (arith, known ((sized c) .before .before .before))
 
 element-set-from-book : tie.Need-element-set-from-book Inv-search μ-search Inv-loop μ-loop Inv-fill μ-fill
 element-set-from-book c = known ((sized c) .before .before .before)
 
 sub-last : tie.Need-sub-last Inv-search μ-search Inv-loop μ-loop Inv-fill μ-fill
-sub-last c = omega (arith, place (here (c .before)))
+sub-last c = omega (arith, index (here (c .before)))
 
 loop-holds : tie.Need-loop-holds Inv-search μ-search Inv-loop μ-loop Inv-fill μ-fill
 loop-holds c =
     let k = here (c .before) in
     let b = (turn k) .fill .book in
-    (refl, moved-starts (b .orders) (at k) (b .count - 1) (omega (arith, place k)))
+    (refl, moved-starts (b .orders) (at k) (b .count - 1) (omega (arith, index k)))
 
 -- the order that moves stands in the array
 moves : (c : tie.In-loop Inv-search μ-search Inv-loop μ-loop Inv-fill μ-fill) → c .before .loop .j + 1 < maxWaiting
@@ -245,25 +282,25 @@ loop-again : tie.Need-loop-again Inv-search μ-search Inv-loop μ-loop Inv-fill 
 loop-again c =
     let l = c .before .before .loop in
     let d = c .before .before .before .before in
-    (l .inv .0, moved-next (l .inv .1) (omega (arith, roomy d, place (here d))) _ (c .before .loop-test .taken))
+    (l .inv .0, moved-next (l .inv .1) (omega (arith, roomy d, index (here d))) _ (c .before .loop-test .taken))
 
 sub-with-lots : tie.Need-sub-with-lots Inv-search μ-search Inv-loop μ-loop Inv-fill μ-fill
-sub-with-lots c = omega (arith, c .before .if2 .left)
+sub-with-lots c = omega (arith, c .before .if4 .left)
 
 with-lots-requires-2 : tie.Need-with-lots-requires-2 Inv-search μ-search Inv-loop μ-loop Inv-fill μ-fill
 with-lots-requires-2 c κs = tt
 
-mul-t54 : tie.Need-mul-t54 Inv-search μ-search Inv-loop μ-loop Inv-fill μ-fill
-mul-t54 c = omega (arith, inside (here (c .before .before .before)))
+mul-t64 : tie.Need-mul-t64 Inv-search μ-search Inv-loop μ-loop Inv-fill μ-fill
+mul-t64 c = omega (arith, inside (here (c .before .before .before)))
 
 element-set-from-book-2 : tie.Need-element-set-from-book-2 Inv-search μ-search Inv-loop μ-loop Inv-fill μ-fill
 element-set-from-book-2 c = inside (here (c .before .before .before))
 
 -- the lots of the trade are off the order
 abbrev Joined : Type 0
-Joined = tie.Joined2 Inv-search μ-search Inv-loop μ-loop Inv-fill μ-fill
+Joined = tie.Joined4 Inv-search μ-search Inv-loop μ-loop Inv-fill μ-fill
 
-off : (c : Joined) → Off (counted (c .before)) (at (here (c .before))) ((sized (c .before .before)) .before .lesser .result) (c .if2 .book)
+off : (c : Joined) → Off (counted (c .before)) (at (here (c .before))) ((sized (c .before .before)) .before .lesser .result) (c .if4 .book)
 off c =
     let d = c .before in
     let k = here d in
@@ -271,11 +308,11 @@ off c =
     ⊎-elim
     (λ w.
     subst (Off (counted d) (at k) n) (sym (w .3))
-    (off-filled (counted d) (at k) n (place k) (roomy d) (w .0 .taken) (w .1 .inv .1) (w .2 .left) _ refl refl (w .1 .inv .0)))
+    (off-filled (counted d) (at k) n (index k) (roomy d) (w .0 .taken) (w .1 .inv .1) (w .2 .left) _ refl refl (w .1 .inv .0)))
     (λ w.
     subst (Off (counted d) (at k) n) (sym (w .3))
-    (off-less (counted d) (at k) n (place k) (roomy d) (w .0 .left) (w .2 .result) (w .2 .ensures) _ refl refl refl))
-    (c .if2 .came)
+    (off-less (counted d) (at k) n (index k) (roomy d) (w .0 .left) (w .2 .result) (w .2 .ensures) _ refl refl refl))
+    (c .if4 .came)
 
 sub-left : tie.Need-sub-left Inv-search μ-search Inv-loop μ-loop Inv-fill μ-fill
 sub-left c = rw (part ((sized (c .before .before)) .before)) (min-le-left _ _)
@@ -291,7 +328,7 @@ fill-less c =
     let k = w .before .before .before in
     let o = off c in
     going-less (going (turn k)) (at k) (some k) (found-at k) (w .with-lots .ensures) (other k) (part (w .before))
-    (coded (c .if2 .book) ((start k) .args .e)) (c .before .before .before .before .trade-with .ensures) (o .waiting) refl
+    (coded (c .if4 .book) ((start k) .args .e)) (c .before .before .before .before .trade-with .ensures) (o .waiting) refl
     (o .turnover) (lent k)
 
 fill-again : tie.Need-fill-again Inv-search μ-search Inv-loop μ-loop Inv-fill μ-fill
@@ -302,7 +339,7 @@ fill-again c =
       o .long ∙ (turn k) .fill .inv .0,
       λ r f.
           going-next ((turn k) .fill .inv .1 r f) (at k) (some k) (found-at k) (w .with-lots .ensures) (other k)
-          (part (w .before)) (coded (c .if2 .book) ((start k) .args .e)) (c .before .before .before .before .trade-with .ensures)
+          (part (w .before)) (coded (c .if4 .book) ((start k) .args .e)) (c .before .before .before .before .trade-with .ensures)
           (o .waiting) refl (o .turnover) (lent k),
     )
 
@@ -315,15 +352,14 @@ same-length c = (going (c .before .before)) .long
 returns : tie.Need-returns Inv-search μ-search Inv-loop μ-loop Inv-fill μ-fill
 returns c = λ r g.
     let f = c .before .before .fill in
-    let e = c .before .before .before .before .args .e in
+    let e = (outset (c .before .before .before)) .args .e in
     let d = openDay r (f .money) (f .pieces) (coded (f .book) e) in
     let over : fill d (withLots e (f .left)) ≡ record { day = d; entry = withLots e (f .left); trades = [] } =
     ⊎-elim (λ full. fill-full d (withLots e (f .left)) (omega (arith, full .left)))
     (λ w.
     fill-none d (withLots e (f .left))
     (best-lots e (f .left) (waitingIn (f .book))
-    ∙ search-ends (w .1 .inv) (w .2 .taken)
-    ∙ ap bestOf (w .4 .given .1)))
+    ∙ seek-none (w .1 .inv) (w .2 .taken) (w .3 .taken)))
     (c .before .fill-test .came) in
     going-ends (f .inv .1 r g) over _ refl refl refl refl
 
@@ -337,13 +373,16 @@ fill-spec =
     μ-loop
     Inv-fill
     μ-fill
+    price-of-requires
+    rank-requires
+    add-reach
     fill-holds
     search-holds
-    enum-known-best
-    enum-told
     mul-o
     element-copy-out-o
-    preferred-requires
+    price-of-requires-2
+    rank-requires-2
+    closer-requires
     add-i
     search-less
     search-again
@@ -354,7 +393,7 @@ fill-spec =
     mul-turnover
     element-copy-out-turnover
     trade-with-requires
-    mul-t31
+    mul-t41
     element-set-from-book
     sub-last
     loop-holds
@@ -368,7 +407,7 @@ fill-spec =
     loop-again
     sub-with-lots
     with-lots-requires-2
-    mul-t54
+    mul-t64
     element-set-from-book-2
     sub-left
     add-made

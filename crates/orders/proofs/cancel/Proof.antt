@@ -1,14 +1,8 @@
 -- `orders::cancel` meets its contract: the participant is known and the order is found, and it leaves.
 use Prim.Native.Nat.{_<_}
 use native.Mathlib.Omega.{arith}
-use mathlib.Core.Path.{_≡_, ap, sym, _∙_}
-use Rattle.market.specs.Limits.{maxSecurities, maxWaiting}
-use Rattle.market.specs.Day.{orderAt}
-use Rattle.market.specs.Waiting.{placeOf, somewhere}
-use Rattle.matching.specs.Orders.{waitingIn}
-use Rattle.orders.specs.Finding.{foundAt}
-use Rattle.orders.proofs.Cancelling.{cancel-carries, cancel-none, cancel-unknown, found-inside, found-known}
-use Rattle.orders.proofs.Cancelling.{found-leaves}
+use Rattle.market.specs.Limits.{maxSecurities}
+use Rattle.orders.proofs.Cancelling.{cancel-carries, cancel-none, cancel-unknown, found-known, found-leaves}
 use Rattle.orders.proofs.Calling.{few-lots}
 use borrow.Author.Needs.{needs}
 use Rattle.orders.proofs.cancel.Statement.{statement}
@@ -22,14 +16,14 @@ returns c =
     let b = c .before .before .before in
     let a = b .args in
     rw (c .declined .ensures)
-    (cancel-unknown (a .rules) (a .phase) (a .money .now) (a .pieces .now) (a .t1) (a .participant) (a .code) (b .pre)
+    (cancel-unknown (a .rules) (a .phase) (a .money .now) (a .pieces .now) (a .b) (a .participant) (a .code) (b .pre)
     (c .before .if1 .taken))
 
 find-requires : tie.Need-find-requires
 find-requires c κs =
     let b = c .before .before in
     let a = b .args in
-    (few-lots (a .rules) (a .phase) (a .money .now) (a .pieces .now) (a .t1) (b .pre)) .room
+    (few-lots (a .rules) (a .phase) (a .money .now) (a .pieces .now) (a .b) (b .pre)) .room
 
 enum-known-found : tie.Need-enum-known-found
 enum-known-found c = search needs
@@ -50,59 +44,41 @@ returns-2 c =
     let b = start f in
     let a = b .args in
     rw (c .declined2 .ensures)
-    (cancel-none (a .rules) (a .phase) (a .money .now) (a .pieces .now) (a .t1) (a .participant) (a .code) (b .pre)
-    (f .before .if1 .left) (sym (ap foundAt (c .before .enum-told .given .1)) ∙ f .find .ensures))
+    (cancel-none (a .rules) (a .phase) (a .money .now) (a .pieces .now) (a .b) (a .participant) (a .code) (b .pre)
+    (f .find .ensures .0) (f .before .if1 .left) (c .before .enum-told .given .1))
 
--- the place that the search found
-there : (c : tie.After-known-told) →
-    let a = (start (c .before .before .before)) .args in
-    somewhere (c .before .found .given .0 .0) ≡ placeOf (a .participant) (a .code) (waitingIn (a .t1))
-there c = sym (ap foundAt (c .before .found .given .1)) ∙ c .before .before .before .find .ensures
-
-inside : (c : tie.After-known-told) → c .before .found .given .0 .0 < maxWaiting
-inside c =
-    let b = start (c .before .before .before) in
-    let a = b .args in
-    found-inside (a .rules) (a .phase) (a .money .now) (a .pieces .now) (a .t1) (a .participant) (a .code) (b .pre)
-    (c .before .found .given .0 .0) (there c)
-
-known : (c : tie.After-known-told) →
-    let a = (start (c .before .before .before)) .args in
-    (orderAt (a .t1 .orders) (c .before .found .given .0 .0)) .security < maxSecurities
+known : (c : tie.After-known-told) → c .before .found .given .0 .1 .0 < maxSecurities
 known c =
-    let b = start (c .before .before .before) in
+    let f = c .before .before .before in
+    let b = start f in
     let a = b .args in
-    found-known (a .rules) (a .phase) (a .money .now) (a .pieces .now) (a .t1) (a .participant) (a .code) (b .pre)
-    (c .before .found .given .0 .0) (there c)
-
-mul-o : tie.Need-mul-o
-mul-o c = omega (arith, inside c)
-
-element-copy-out-o : tie.Need-element-copy-out-o
-element-copy-out-o c = inside c
+    found-known (a .rules) (a .phase) (a .money .now) (a .pieces .now) (a .b) (a .participant) (a .code) (b .pre)
+    (f .find .ensures .0) (f .find .ensures .1) (c .before .found .given .1)
 
 mul-row : tie.Need-mul-row
-mul-row c = omega (arith, known (c .before .before))
+mul-row c = omega (arith, known (c .before))
 
 array-copy-out-row : tie.Need-array-copy-out-row
-array-copy-out-row c = known (c .before .before)
+array-copy-out-row c = known (c .before)
 
-left-requires : tie.Need-left-requires
-left-requires c κs =
-    let k = c .before .before .before .before .before in
-    let b = start (k .before .before .before) in
-    let a = b .args in
-    found-leaves (a .rules) (a .phase) (a .money .now) (a .pieces .now) (a .t1) (a .participant) (a .code) (b .pre)
-    (k .before .found .given .0 .0) (there k)
-
-returns-3 : tie.Need-returns-3
-returns-3 c =
-    let k = c .before .before .before .before .before .before in
+leave-requires : tie.Need-leave-requires
+leave-requires c κs =
+    let k = c .before .before .before .before in
     let f = k .before .before .before in
     let b = start f in
     let a = b .args in
-    cancel-carries (a .rules) (a .phase) (a .money .now) (a .pieces .now) (a .t1) (a .participant) (a .code) (b .pre)
-    (k .before .found .given .0 .0) (there k) _ _ (c .left .result) (f .before .if1 .left) (c .left .ensures)
+    found-leaves (a .rules) (a .phase) (a .money .now) (a .pieces .now) (a .b) (a .participant) (a .code) (b .pre)
+    (f .find .ensures .0) (f .find .ensures .1) (k .before .found .given .1)
+
+returns-3 : tie.Need-returns-3
+returns-3 c =
+    let k = c .before .before .before .before .before in
+    let f = k .before .before .before in
+    let b = start f in
+    let a = b .args in
+    cancel-carries (a .rules) (a .phase) (a .money .now) (a .pieces .now) (a .b) (a .participant) (a .code) (b .pre)
+    (f .find .ensures .0) (f .find .ensures .1) (k .before .found .given .1) _ _ (c .leave .result) (f .before .if1 .left)
+    (c .leave .ensures)
 
 pub cancel-spec : {M : Type 1} → statement M
 cancel-spec =
@@ -115,9 +91,7 @@ cancel-spec =
     enum-told
     declined-requires-2
     returns-2
-    mul-o
-    element-copy-out-o
     mul-row
     array-copy-out-row
-    left-requires
+    leave-requires
     returns-3)

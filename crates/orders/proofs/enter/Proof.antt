@@ -17,7 +17,7 @@ use Rattle.matching.specs.Orders.{coded}
 use Rattle.waiting.specs.Claims.{moneyWith, piecesWith}
 use Rattle.orders.specs.Entering.{Accepts}
 use Rattle.orders.proofs.Finishing.{waits-part}
-use Rattle.orders.proofs.Accepting.{blockable, flies, freeable, gives-done, gives-waits, listed, place-left}
+use Rattle.orders.proofs.Accepting.{blockable, flies, freeable, gives-done, gives-waits, listed, index-left}
 use Rattle.orders.proofs.enter.Statement.{statement}
 use Rattle.orders.proofs.enter.Tie as tie
 
@@ -131,22 +131,22 @@ free-need-requires c κs =
     (w .left-waiting .result) (waits-is w))
 
 -- there is a place for what waits
-place : (c : tie.Then1) → (matched (weighed (c .before .before))) .fill .result .count < maxWaiting
-place c =
+index : (c : tie.Then1) → (matched (weighed (c .before .before))) .fill .result .count < maxWaiting
+index c =
     let w = weighed (c .before .before) in
     let k = blocked (matched w) in
     let p = (start k) .pre in
-    place-left (p .accepts) (k .block-need .ensures .0) (k .block-need .ensures .1) (done (matched w) (p .rules) (p .accepts))
+    index-left (p .accepts) (k .block-need .ensures .0) (k .block-need .ensures .1) (done (matched w) (p .rules) (p .accepts))
     (w .left-waiting .result) (waits-is w) (c .if1 .taken)
 
 mul-rest : tie.Need-mul-rest
-mul-rest c = omega (arith, place c)
+mul-rest c = omega (arith, index c)
 
 element-set-from-rest : tie.Need-element-set-from-rest
-element-set-from-rest c = place c
+element-set-from-rest c = index c
 
 add-book : tie.Need-add-book
-add-book c = omega (arith, place c)
+add-book c = omega (arith, index c)
 
 same-length : tie.Need-same-length
 same-length c = search needs
@@ -166,7 +166,7 @@ returns c = λ r accepts.
     (w .left-waiting .result) (waits-is w)
     (f .free-need .ensures .0 ∙ ap (λ (o : Order). moneyWith release row t o (m .fill .last .1 .1 .1 .0)) (dropped-is (f .before)))
     (f .free-need .ensures .1 ∙ ap (λ (o : Order). piecesWith release row t o (m .fill .last .1 .1 .1 .1 .0)) (dropped-is (f .before)))
-    (c .if1 .taken) (omega (arith, place c, size)))
+    (c .if1 .taken) (omega (arith, index c, size)))
 
 same-length-2 : tie.Need-same-length-2
 same-length-2 c = search needs

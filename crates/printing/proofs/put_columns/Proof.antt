@@ -18,8 +18,8 @@ abbrev μ-loop : tie.MeasureT-loop
 loop-holds : tie.Need-loop-holds Inv-loop μ-loop
 loop-holds c = run-starts (column-run _ _ _) _ _ _ (c .before .pre .1)
 
-place-of-requires : tie.Need-place-of-requires Inv-loop μ-loop
-place-of-requires c κs = search needs
+cell-of-requires : tie.Need-cell-of-requires Inv-loop μ-loop
+cell-of-requires c κs = search needs
 
 mul-first : tie.Need-mul-first Inv-loop μ-loop
 mul-first c = search needs
@@ -54,7 +54,7 @@ loop-again c =
     let put = c .before .before in
     let placed = put .before .before .before .before in
     run-next (column-run _ _ _) (placed .before .before .loop .inv) (omega arith)
-    (rw (placed .place-of .ensures) at (put .put-position .ensures))
+    (rw (placed .cell-of .ensures) at (put .put-position .ensures))
 
 same-length : tie.Need-same-length Inv-loop μ-loop
 same-length c = search needs
@@ -69,7 +69,7 @@ put-columns-spec =
     Inv-loop
     μ-loop
     loop-holds
-    place-of-requires
+    cell-of-requires
     mul-first
     mul-free
     element-copy-out-free

@@ -37,19 +37,19 @@ returns-2 c =
 abbrev inside : tie.After-known-told Inv-loop μ-loop → tie.In-loop Inv-loop μ-loop
 inside c = c .before .before .before .before .before
 
-place : (c : tie.After-known-told Inv-loop μ-loop) → (inside c) .before .loop .i < 8
-place c =
+index : (c : tie.After-known-told Inv-loop μ-loop) → (inside c) .before .loop .i < 8
+index c =
     let k = inside c in
     omega (arith, k .loop-test .taken, k .before .before .before .pre .1)
 
 mul-list : tie.Need-mul-list Inv-loop μ-loop
-mul-list c = omega (arith, place c)
+mul-list c = omega (arith, index c)
 
 array-set-from-list : tie.Need-array-set-from-list Inv-loop μ-loop
-array-set-from-list c = place c
+array-set-from-list c = index c
 
 add-i : tie.Need-add-i Inv-loop μ-loop
-add-i c = omega (arith, place c)
+add-i c = omega (arith, index c)
 
 loop-less : tie.Need-loop-less Inv-loop μ-loop
 loop-less c = omega (arith, (inside c) .loop-test .taken)

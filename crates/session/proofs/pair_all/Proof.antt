@@ -222,24 +222,24 @@ sell-found : (c : Here) →
     ≡ found (to c) (c .before .sells .given .0 .1 .0)
 sell-found c = sell-by c ((start (turn c)) .args .limit) ((turn c) .before .counterparty2 .ensures)
 
-buy-place : (c : Here) → at c < (turn c) .pairs .book .count
-buy-place c = going-buy (goes (turn c)) _ _ _ _ (buy-found c) (sell-found c)
+buy-index : (c : Here) → at c < (turn c) .pairs .book .count
+buy-index c = going-buy (goes (turn c)) _ _ _ _ (buy-found c) (sell-found c)
 
-sell-place : (c : Here) → to c < (turn c) .pairs .book .count
-sell-place c = going-sell (goes (turn c)) _ _ _ _ (buy-found c) (sell-found c)
+sell-index : (c : Here) → to c < (turn c) .pairs .book .count
+sell-index c = going-sell (goes (turn c)) _ _ _ _ (buy-found c) (sell-found c)
 
 buy-inside : (c : Here) → at c < maxWaiting
-buy-inside c = omega (arith, buy-place c, going-room (goes (turn c)))
+buy-inside c = omega (arith, buy-index c, going-room (goes (turn c)))
 
 sell-inside : (c : Here) → to c < maxWaiting
-sell-inside c = omega (arith, sell-place c, going-room (goes (turn c)))
+sell-inside c = omega (arith, sell-index c, going-room (goes (turn c)))
 
 -- the orders read are those that wait there, and the lots of the trade are the definition's
 one : (c : Here) → orderAt ((turn c) .pairs .book .orders) (at c) ≡ orderAt (waitingIn ((turn c) .pairs .book)) (at c)
-one c = let b = (turn c) .pairs .book in sym (first-at (b .count) (b .orders) (at c) (buy-place c))
+one c = let b = (turn c) .pairs .book in sym (first-at (b .count) (b .orders) (at c) (buy-index c))
 
 other : (c : Here) → orderAt ((turn c) .pairs .book .orders) (to c) ≡ orderAt (waitingIn ((turn c) .pairs .book)) (to c)
-other c = let b = (turn c) .pairs .book in sym (first-at (b .count) (b .orders) (to c) (sell-place c))
+other c = let b = (turn c) .pairs .book in sym (first-at (b .count) (b .orders) (to c) (sell-index c))
 
 abbrev here : tie.After-lesser Inv-search μ-search Inv-keep μ-keep Inv-pairs μ-pairs → Here
 here c = c .before .before .before
@@ -348,22 +348,22 @@ mul-o-3 c = omega (arith, passes (c .before), c .before .before .keep .inv .1 .b
 element-set-from-o : tie.Need-element-set-from-o Inv-search μ-search Inv-keep μ-keep Inv-pairs μ-pairs
 element-set-from-o c = omega (arith, passes (c .before), c .before .before .keep .inv .1 .below)
 
-places-of-requires : tie.Need-places-of-requires Inv-search μ-search Inv-keep μ-keep Inv-pairs μ-pairs
-places-of-requires c κs = tt
+slots-of-requires : tie.Need-slots-of-requires Inv-search μ-search Inv-keep μ-keep Inv-pairs μ-pairs
+slots-of-requires c κs = tt
 
 -- one more order passed
-next : (c : tie.After-places-of Inv-search μ-search Inv-keep μ-keep Inv-pairs μ-pairs) →
+next : (c : tie.After-slots-of Inv-search μ-search Inv-keep μ-keep Inv-pairs μ-pairs) →
     let l = c .before .before .before .keep in
     let d = c .before .before .before .before in
     let h = here (sized (done d)) in
     let b = (turn h) .pairs .book in
     Keeping (set (set (b .orders) (at h) (d .before .before .with-lots .result)) (to h) (d .with-lots2 .result))
     (set (l .book .orders) (l .kept) (orderAt (l .book .orders) (l .k))) (b .count) (l .k + 1)
-    (l .kept + c .places-of .result)
+    (l .kept + c .slots-of .result)
 next c =
     let t = c .before .before in
     let d = t .before .before in
-    rw (c .places-of .ensures)
+    rw (c .slots-of .ensures)
     (keeping-next (t .before .keep .inv .1)
     (omega (arith, roomy d, long d))
     (t .keep-test .taken))
@@ -414,7 +414,7 @@ waits c =
     let d = c .before .before in
     let b = (turn k) .pairs .book in
     keeping-both (b .orders) (c .before .keep .book .orders) (b .count) (at k) (to k) ((sized (traded c)) .lesser .result)
-    (c .before .keep .kept) (c .before .keep .k) _ _ (roomy d) (going-positive (goes (turn k))) (buy-place k) (sell-place k)
+    (c .before .keep .kept) (c .before .keep .k) _ _ (roomy d) (going-positive (goes (turn k))) (buy-index k) (sell-index k)
     (going-apart (goes (turn k)) _ _ _ _ (buy-found k) (sell-found k)) (d .before .before .with-lots .ensures)
     (d .with-lots2 .ensures) (c .before .keep .inv .1) (c .keep-test .left)
 
@@ -534,7 +534,7 @@ pair-all-spec =
     element-copy-out-o-2
     mul-o-3
     element-set-from-o
-    places-of-requires
+    slots-of-requires
     add-kept
     add-k
     keep-less

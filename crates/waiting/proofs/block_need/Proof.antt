@@ -13,28 +13,28 @@ need-of-requires c κs = search needs
 enum-told : tie.Need-enum-told
 enum-told c = search needs
 
-place-of-requires : tie.Need-place-of-requires
-place-of-requires c κs = search needs
+cell-of-requires : tie.Need-cell-of-requires
+cell-of-requires c κs = search needs
 
 block-requires : tie.Need-block-requires
 block-requires c κs =
     let e = c .before .before in
     let b = e .before .before .before in
     blocks-as (b .args .row) (b .args .turnover) (b .args .o) (b .args .money .now) (b .args .pieces .now) Buy (e .enum-told .given .1) _ _
-    (e .before .before .need-of .ensures) (c .place-of .ensures) (b .pre)
+    (e .before .before .need-of .ensures) (c .cell-of .ensures) (b .pre)
 
 enum-told-2 : tie.Need-enum-told-2
 enum-told-2 c = search needs
 
-place-of-requires-2 : tie.Need-place-of-requires-2
-place-of-requires-2 c κs = search needs
+cell-of-requires-2 : tie.Need-cell-of-requires-2
+cell-of-requires-2 c κs = search needs
 
 block-requires-2 : tie.Need-block-requires-2
 block-requires-2 c κs =
     let e = c .before .before in
     let b = e .before .before .before in
     blocks-as (b .args .row) (b .args .turnover) (b .args .o) (b .args .money .now) (b .args .pieces .now) Sell (e .enum-told2 .given .1) _ _
-    (e .before .before .need-of .ensures) (c .place-of2 .ensures) (b .pre)
+    (e .before .before .need-of .ensures) (c .cell-of2 .ensures) (b .pre)
 
 returns : tie.Need-returns
 returns c =
@@ -43,9 +43,9 @@ returns c =
     let n = e .before .before in
     let b = n .before in (
       c .block .ensures ∙ money-as (b .args .row) (b .args .turnover) (b .args .o) (b .args .money .now) (b .args .pieces .now) Buy
-          (e .enum-told .given .1) _ _ (n .need-of .ensures) (p .place-of .ensures) block,
+          (e .enum-told .given .1) _ _ (n .need-of .ensures) (p .cell-of .ensures) block,
       pieces-as (b .args .row) (b .args .turnover) (b .args .o) (b .args .money .now) (b .args .pieces .now) Buy
-          (e .enum-told .given .1) _ _ (n .need-of .ensures) (p .place-of .ensures) block,
+          (e .enum-told .given .1) _ _ (n .need-of .ensures) (p .cell-of .ensures) block,
     )
 
 returns-2 : tie.Need-returns-2
@@ -55,9 +55,9 @@ returns-2 c =
     let n = e .before .before in
     let b = n .before in (
       money-as (b .args .row) (b .args .turnover) (b .args .o) (b .args .money .now) (b .args .pieces .now) Sell
-          (e .enum-told2 .given .1) _ _ (n .need-of .ensures) (p .place-of2 .ensures) block,
+          (e .enum-told2 .given .1) _ _ (n .need-of .ensures) (p .cell-of2 .ensures) block,
       c .block2 .ensures ∙ pieces-as (b .args .row) (b .args .turnover) (b .args .o) (b .args .money .now) (b .args .pieces .now) Sell
-          (e .enum-told2 .given .1) _ _ (n .need-of .ensures) (p .place-of2 .ensures) block,
+          (e .enum-told2 .given .1) _ _ (n .need-of .ensures) (p .cell-of2 .ensures) block,
     )
 
 pub block-need-spec : {M : Type 1} → statement M
@@ -66,10 +66,10 @@ block-need-spec =
     (tie.spec
     need-of-requires
     enum-told
-    place-of-requires
+    cell-of-requires
     block-requires
     enum-told-2
-    place-of-requires-2
+    cell-of-requires-2
     block-requires-2
     returns
     returns-2)

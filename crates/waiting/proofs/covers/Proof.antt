@@ -14,8 +14,8 @@ need-of-requires c κs = search needs
 enum-told : tie.Need-enum-told
 enum-told c = search needs
 
-place-of-requires : tie.Need-place-of-requires
-place-of-requires c κs = search needs
+cell-of-requires : tie.Need-cell-of-requires
+cell-of-requires c κs = search needs
 
 free-of-requires : tie.Need-free-of-requires
 free-of-requires c κs = search needs
@@ -23,8 +23,8 @@ free-of-requires c κs = search needs
 enum-told-2 : tie.Need-enum-told-2
 enum-told-2 c = search needs
 
-place-of-requires-2 : tie.Need-place-of-requires-2
-place-of-requires-2 c κs = search needs
+cell-of-requires-2 : tie.Need-cell-of-requires-2
+cell-of-requires-2 c κs = search needs
 
 free-of-requires-2 : tie.Need-free-of-requires-2
 free-of-requires-2 c κs = search needs
@@ -37,7 +37,7 @@ returns c =
     let b = n .before in
     ap (λ (x : ℕ). n .need-of .result ≤? x) (c .free-of .ensures)
     ∙ covers-as (b .args .row) (b .args .turnover) (b .args .o) (b .args .money .now) (b .args .pieces .now) Buy
-    (e .enum-told .given .1) _ _ (n .need-of .ensures) (p .place-of .ensures)
+    (e .enum-told .given .1) _ _ (n .need-of .ensures) (p .cell-of .ensures)
 
 returns-2 : tie.Need-returns-2
 returns-2 c =
@@ -47,7 +47,7 @@ returns-2 c =
     let b = n .before in
     ap (λ (x : ℕ). n .need-of .result ≤? x) (c .free-of2 .ensures)
     ∙ covers-as (b .args .row) (b .args .turnover) (b .args .o) (b .args .money .now) (b .args .pieces .now) Sell
-    (e .enum-told2 .given .1) _ _ (n .need-of .ensures) (p .place-of2 .ensures)
+    (e .enum-told2 .given .1) _ _ (n .need-of .ensures) (p .cell-of2 .ensures)
 
 pub covers-spec : {M : Type 1} → statement M
 covers-spec =
@@ -55,10 +55,10 @@ covers-spec =
     (tie.spec
     need-of-requires
     enum-told
-    place-of-requires
+    cell-of-requires
     free-of-requires
     enum-told-2
-    place-of-requires-2
+    cell-of-requires-2
     free-of-requires-2
     returns
     returns-2)

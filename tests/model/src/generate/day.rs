@@ -2,7 +2,7 @@
 
 use super::Plan;
 use crate::calls::{Call, Movement, Opening, Phase};
-use crate::engine::{Engine, MONEY_LIMIT, PIECES_LIMIT, PRICE_LIMIT};
+use crate::engine::{Engine, LIST_LENGTH, MONEY_LIMIT, PIECES_LIMIT, PRICE_LIMIT};
 use crate::random::Random;
 use crate::reader::TEXT_LIMIT;
 use crate::write::{write_call, write_heading};
@@ -17,6 +17,8 @@ pub(super) struct Day {
     pub(super) text: Vec<u8>,
     pub(super) engine: Engine,
     pub(super) base_steps: Vec<u64>,
+    /// Numbers lent to the next call.
+    pub(super) lent: u64,
 }
 
 impl Day {
@@ -35,6 +37,7 @@ impl Day {
             text,
             engine,
             base_steps,
+            lent: LIST_LENGTH,
         }
     }
 
@@ -65,8 +68,9 @@ impl Day {
     /// Writes the call and lets the shadow engine follow. A number too long
     /// for the file is over every limit, so the shadow refuses it as well.
     pub(super) fn add(&mut self, call: Call) {
+        self.write_script_words();
         write_call(&call, &mut self.text);
-        let _ = self.engine.call(&call, &mut Vec::new());
+        let _ = self.engine.call_lent(&call, self.lent, &mut Vec::new());
     }
 
     fn write_reserves(&mut self) {

@@ -1,11 +1,11 @@
 //! Each part of "Sound means", broken one at a time, and the questions that no
-//! day file reaches: 1 and 13.
+//! day file or script reaches: 1 and 13.
 
 use crate::calls::{
     refusal, refused, Call, ClosingEntry, Entry, EntryKind, Movement, Opening, Phase, SecurityLine,
     Side, WaitingKind,
 };
-use crate::engine::{Engine, CODE_LIMIT, MONEY_LIMIT, PIECES_LIMIT};
+use crate::engine::{Engine, CODE_LIMIT, LIST_LENGTH, MONEY_LIMIT, PIECES_LIMIT};
 
 fn entry(participant: u64, side: Side, price: u64, lots: u64) -> Call {
     Call::Enter(Entry {
@@ -241,6 +241,18 @@ fn one_order_too_many() {
         it.state.money[0][0].blocked += 50;
         it.state.waiting.push(order);
     });
+}
+
+/// Question 1 comes before question 2.
+#[test]
+fn an_unsound_state_with_a_short_list() {
+    let mut engine = trading();
+    let order = entry(0, Side::Buy, 100, 1);
+    let short = engine.call_lent(&order, LIST_LENGTH - 1, &mut Vec::new());
+    assert_eq!(short, Err(refused(refusal::LIST_TOO_SHORT)));
+    engine.state.money[0][0].blocked += 1;
+    let unsound = engine.call_lent(&order, LIST_LENGTH - 1, &mut Vec::new());
+    assert_eq!(unsound, Err(refused(refusal::UNSOUND)));
 }
 
 #[test]

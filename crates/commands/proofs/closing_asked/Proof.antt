@@ -1,0 +1,79 @@
+-- `commands::closing_asked` meets its contract: refused by its first "no", or as it comes to wait.
+use Prim.Native.Nat.{_<_}
+use native.Mathlib.Omega.{arith}
+use mathlib.Core.Path.{refl}
+use borrow.Author.Needs.{needs}
+use Rattle.market.specs.Limits.{maxSecurities}
+use Rattle.commands.specs.Command.{carried}
+use Rattle.calls.proofs.Lists.{any-list, closing-listless}
+use Rattle.session.specs.Appending.{ClosingNo}
+use Rattle.session.proofs.Asking.{refuse}
+use Rattle.commands.proofs.Carrying.{closing-listed, closing-none, does-call}
+use Rattle.commands.proofs.closing_asked.Statement.{statement}
+use Rattle.commands.proofs.closing_asked.Tie as tie
+
+closing-no-requires : tie.Need-closing-no-requires
+closing-no-requires c κs = search needs
+
+returns : tie.Need-returns
+unfolding carried
+returns c = λ b l ms e1 e2 e3 ready n.
+    let a = c .before .before .args in
+    does-call _ _ _ _ b l _ _ _ l _ ready n
+    (any-list _ _ _ _ b l _ (closing-listless (a .participant) (a .side) (a .security) (a .lots)) _ _ _
+    (refuse _ _ _ _ b ready (a .participant) (a .side) (a .security) (a .lots) _ (c .if1 .taken)
+    (c .before .closing-no .ensures b e1 e2 e3)))
+
+-- its questions are answered "yes"
+none : (e : tie.Else1) →
+    let a = e .before .before .args in
+    ClosingNo (a .rules) (a .phase) (a .turnovers) (a .count) (a .codes) (a .money .now) (a .pieces .now) (a .participant) (a .side)
+    (a .security) (a .lots) 0
+none e =
+    let a = e .before .before .args in
+    closing-none (a .rules) (a .phase) (a .turnovers) (a .count) (a .codes) (a .money .now) (a .pieces .now) (a .participant) (a .side)
+    (a .security) (a .lots) (e .if1 .left) (e .before .closing-no .ensures)
+
+listed : (e : tie.Else1) → e .before .before .args .security < maxSecurities
+listed e =
+    let a = e .before .before .args in
+    closing-listed (a .rules) (a .phase) (a .turnovers) (a .count) (a .codes) (a .money .now) (a .pieces .now) (a .participant)
+    (a .side) (a .security) (a .lots) (e .before .before .pre) (none e)
+
+mul-row : tie.Need-mul-row
+mul-row c = omega (arith, listed (c .before))
+
+array-copy-out-row : tie.Need-array-copy-out-row
+array-copy-out-row c = listed (c .before)
+
+closing-order-requires : tie.Need-closing-order-requires
+closing-order-requires c κs = search needs
+
+returns-2 : tie.Need-returns-2
+returns-2 c =
+    let e = c .before .before .before in
+    let a = e .before .before .args in (
+      refl,
+      refl,
+      record {
+        participant = a .participant;
+        side = a .side;
+        security = a .security;
+        lots = a .lots;
+        said = refl;
+        entry = c .closing-order .ensures;
+        row = refl;
+        asked = none e;
+      },
+    )
+
+pub closing-asked-spec : {M : Type 1} → statement M
+closing-asked-spec =
+    tie.close
+    (tie.spec
+    closing-no-requires
+    returns
+    mul-row
+    array-copy-out-row
+    closing-order-requires
+    returns-2)

@@ -1,0 +1,2 @@
+pub mod PublicCalls
+pub mod Printing

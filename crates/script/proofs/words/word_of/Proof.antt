@@ -1,0 +1,52 @@
+-- `script::words::word_of` is safe.
+use native.Mathlib.Omega.{arith}
+use mathlib.Core.Path.{sym}
+use lib.Seq.{length-take-le}
+use borrow.Author.Needs.{needs}
+use Rattle.script.proofs.words.word_of.Statement.{statement}
+use Rattle.script.proofs.words.word_of.Tie as tie
+
+slice-aggregate-is-same : tie.Need-slice-aggregate-is-same
+slice-aggregate-is-same c = search needs
+
+is-same-requires : tie.Need-is-same-requires
+is-same-requires c κs = search needs
+
+returns : tie.Need-returns
+returns c = search needs
+
+find-requires : tie.Need-find-requires
+find-requires c κs = search needs
+
+slice-aggregate-is-same-2 : tie.Need-slice-aggregate-is-same-2
+slice-aggregate-is-same-2 c = sym (length-take-le _ _ (c .before .find .ensures .1))
+
+slice-aggregate-is-same-3 : tie.Need-slice-aggregate-is-same-3
+slice-aggregate-is-same-3 c = search needs
+
+is-same-requires-2 : tie.Need-is-same-requires-2
+is-same-requires-2 c κs = search needs
+
+lend-word-requires : tie.Need-lend-word-requires
+lend-word-requires c κs = search needs
+
+returns-2 : tie.Need-returns-2
+returns-2 c = search needs
+
+returns-3 : tie.Need-returns-3
+returns-3 c = search needs
+
+pub word-of-spec : {M : Type 1} → statement M
+word-of-spec =
+    tie.close
+    (tie.spec
+    slice-aggregate-is-same
+    is-same-requires
+    returns
+    find-requires
+    slice-aggregate-is-same-2
+    slice-aggregate-is-same-3
+    is-same-requires-2
+    lend-word-requires
+    returns-2
+    returns-3)

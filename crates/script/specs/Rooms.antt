@@ -1,0 +1,51 @@
+-- What lines take of a lent buffer at most.
+use Prim.Native.Nat.{ℕ, _+_, _*_, _≤_}
+use mathlib.Core.Path.{_≡_}
+use mathlib.Core.List.{List}
+use lib.ListN.{length}
+use Rattle.market.specs.Limits.{maxCurrencies, maxParticipants, maxSecurities, maxWaiting}
+use Rattle.printing.specs.Buffer.{lineRoom, wordedRoom}
+
+-- from place `at` on at most n bytes are put, up to place r; the buffer keeps its length
+pub record Adds (n : ℕ) (before : List ℕ) (at : ℕ) (after : List ℕ) (r : ℕ) : Type 0 where
+  pub size : length after ≡ length before
+  pub most : r ≤ at + n
+
+abbrev pub positionsRoom : ℕ
+positionsRoom = maxParticipants * (maxCurrencies + maxSecurities) * lineRoom 4
+
+abbrev pub phaseRoom : ℕ
+phaseRoom = 14
+
+abbrev pub turnoverRoom : ℕ
+turnoverRoom = wordedRoom 8 3
+
+abbrev pub codesRoom : ℕ
+codesRoom = wordedRoom 5 1
+
+abbrev pub sideRoom : ℕ
+sideRoom = 2
+
+-- kind and price, and the line's end
+abbrev pub kindRoom : ℕ
+kindRoom = wordedRoom 2 1
+
+-- a waiting order's line: its word, four numbers, side, kind and price
+abbrev pub waitsRoom : ℕ
+waitsRoom = 5 + 21 * 4 + sideRoom + kindRoom
+
+-- all lines of the end
+abbrev pub endRoom : ℕ
+endRoom =
+    positionsRoom + phaseRoom + maxSecurities * turnoverRoom + codesRoom + maxWaiting * waitsRoom
+
+-- what a command, with the lines that SHOW prints, or the end take at most
+abbrev pub room : ℕ
+room = 49152
+
+-- counts within their limits
+pub record Counts (participants currencies securities count : ℕ) : Type 0 where
+  pub few-participants : participants ≤ maxParticipants
+  pub few-currencies : currencies ≤ maxCurrencies
+  pub few-securities : securities ≤ maxSecurities
+  pub few-orders : count ≤ maxWaiting

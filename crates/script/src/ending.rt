@@ -1,0 +1,152 @@
+// The lines of the end: positions, phase, turnovers, codes given, waiting orders.
+use market::Kind;
+use market::MAX_CURRENCIES;
+use market::MAX_PARTICIPANTS;
+use market::MAX_SECURITIES;
+use market::MAX_WAITING;
+use market::Order;
+use market::Phase;
+use market::Side;
+use market::State;
+use market::Turnover;
+use printing::put_bytes;
+use printing::put_fields;
+use printing::put_positions;
+use printing::put_worded;
+ghost use mathlib.Core.Path.{_≡_};
+ghost use mathlib.Core.Bool.{true};
+ghost use Prim.Native.Nat.{_+_, _*_, _≤_};
+ghost use lib.ListN.{length};
+ghost use Rattle.market.specs.Limits.{maxSecurities, maxWaiting};
+ghost use Rattle.script.specs.Rooms.{Adds, Counts, endRoom, kindRoom, phaseRoom, sideRoom, turnoverRoom, waitsRoom};
+
+fn put_phase(out: &mut [u8], at: usize, phase: Phase) -> usize
+    requires { ⌜ at + phaseRoom ≤ length (now out) ⌝ }
+    ensures { λ r. ⌜ Adds phaseRoom (now (out .entry)) at (now (out .exit)) r ⌝ }
+{
+    match phase {
+        Phase::Open => put_bytes(out, at, b"PHASE,open\n"),
+        Phase::Closing => put_bytes(out, at, b"PHASE,closing\n"),
+        Phase::Closed => put_bytes(out, at, b"PHASE,closed\n"),
+    }
+}
+
+fn put_turnover(out: &mut [u8], at: usize, security: u64, pieces: u64, money: u64) -> usize
+    requires { ⌜ at + turnoverRoom ≤ length (now out) ⌝ }
+    ensures { λ r. ⌜ Adds turnoverRoom (now (out .entry)) at (now (out .exit)) r ⌝ }
+{
+    let numbers = [security, pieces, money];
+    put_worded(out, at, b"TURNOVER", &numbers)
+}
+
+// The first `securities` turnovers.
+fn put_turnovers(out: &mut [u8], at: usize, turnovers: [Turnover; 16], securities: u64) -> usize
+    requires { ⌜ securities ≤ maxSecurities ⌝ }
+    requires { ⌜ at + maxSecurities * turnoverRoom ≤ length (now out) ⌝ }
+    ensures { λ r. ⌜ Adds (maxSecurities * turnoverRoom) (now (out .entry)) at (now (out .exit)) r ⌝ }
+{
+    let mut end = at;
+    let mut i: u64 = 0;
+    while i < securities {
+        let turnover = turnovers[i as usize];
+        end = put_turnover(out, end, i, turnover.pieces, turnover.money);
+        i += 1;
+    }
+    end
+}
+
+fn put_side(out: &mut [u8], at: usize, side: Side) -> usize
+    requires { ⌜ at + sideRoom ≤ length (now out) ⌝ }
+    ensures { λ r. ⌜ Adds sideRoom (now (out .entry)) at (now (out .exit)) r ⌝ }
+{
+    match side {
+        Side::Buy => put_bytes(out, at, b",B"),
+        Side::Sell => put_bytes(out, at, b",L"),
+    }
+}
+
+// Kind and price; a closing order has none and prints 0.
+fn put_kind(out: &mut [u8], at: usize, kind: Kind) -> usize
+    requires { ⌜ at + kindRoom ≤ length (now out) ⌝ }
+    ensures { λ r. ⌜ Adds kindRoom (now (out .entry)) at (now (out .exit)) r ⌝ }
+{
+    let Kind::Kept(price) = kind else {
+        return put_bytes(out, at, b",P,0\n");
+    };
+    let numbers = [price];
+    put_worded(out, at, b",K", &numbers)
+}
+
+fn put_order(out: &mut [u8], at: usize, order: Order) -> usize
+    requires { ⌜ at + waitsRoom ≤ length (now out) ⌝ }
+    ensures { λ r. ⌜ Adds waitsRoom (now (out .entry)) at (now (out .exit)) r ⌝ }
+{
+    let side = order.side;
+    let kind = order.kind;
+    let whose = [order.participant, order.code];
+    let what = [order.security, order.lots];
+    let a = put_bytes(out, at, b"WAITS");
+    let b = put_fields(out, a, &whose);
+    let c = put_side(out, b, side);
+    let d = put_fields(out, c, &what);
+    put_kind(out, d, kind)
+}
+
+// The first `count` orders.
+fn put_orders(out: &mut [u8], at: usize, orders: [Order; 128], count: usize) -> usize
+    requires { ⌜ count ≤ maxWaiting ⌝ }
+    requires { ⌜ at + maxWaiting * waitsRoom ≤ length (now out) ⌝ }
+    ensures { λ r. ⌜ Adds (maxWaiting * waitsRoom) (now (out .entry)) at (now (out .exit)) r ⌝ }
+{
+    let mut end = at;
+    let mut i: usize = 0;
+    while i < count {
+        end = put_order(out, end, orders[i]);
+        i += 1;
+    }
+    end
+}
+
+// Are the counts of a state within their limits? Those of every sound one are.
+fn in_limits(participants: u64, currencies: u64, securities: u64, count: usize) -> bool
+    ensures { λ r. ⌜ (r ≡ true → Counts participants currencies securities count) ⌝ }
+{
+    if MAX_PARTICIPANTS < participants {
+        return false;
+    }
+    if MAX_CURRENCIES < currencies {
+        return false;
+    }
+    if MAX_SECURITIES < securities {
+        return false;
+    }
+    count as u64 <= MAX_WAITING
+}
+
+pub fn put_end(out: &mut [u8], at: usize, s: State) -> usize
+    requires { ⌜ at + endRoom ≤ length (now out) ⌝ }
+    ensures { λ r. ⌜ Adds endRoom (now (out .entry)) at (now (out .exit)) r ⌝ }
+{
+    if !in_limits(s.participants, s.currencies, s.securities, s.count) {
+        return at;
+    }
+    let money = s.money;
+    let pieces = s.pieces;
+    let phase = s.phase;
+    let turnovers = s.turnover;
+    let codes = [s.codes];
+    let orders = s.orders;
+    let a = put_positions(
+        out,
+        at,
+        s.participants,
+        s.currencies,
+        s.securities,
+        &money,
+        &pieces,
+    );
+    let b = put_phase(out, a, phase);
+    let c = put_turnovers(out, b, turnovers, s.securities);
+    let d = put_worded(out, c, b"CODES", &codes);
+    put_orders(out, d, orders, s.count)
+}

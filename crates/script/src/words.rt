@@ -1,0 +1,65 @@
+// The words that a script has besides the letters of a day file.
+use lines::Value;
+use lines::number;
+ghost use Prim.Native.Nat.{_≤_, _<_};
+ghost use lib.ListN.{length};
+
+const COMMA: u8 = b',';
+
+const LINE_END: u8 = b'\n';
+
+pub enum Word {
+    // From here on so many numbers are lent.
+    Lend(u64),
+    // The lines of the end are printed here.
+    Show,
+    // None of them: a line of a day file, or malformed.
+    Other,
+}
+
+fn is_same(a: &[u8], b: &[u8]) -> bool {
+    if a.len() != b.len() {
+        return false;
+    }
+    let mut i: usize = 0;
+    while i < a.len() {
+        if a[i] != b[i] {
+            return false;
+        }
+        i += 1;
+    }
+    true
+}
+
+// `LENT,n`, whose first field ends at `end`.
+fn lend_word(line: &[u8], end: usize) -> Word
+    requires { ⌜ end ≤ length (now line) ⌝ }
+{
+    if line.len() <= end {
+        return Word::Other;
+    }
+    let start = end + 1;
+    let Value::Good(n) = number(&line[start..]) else {
+        return Word::Other;
+    };
+    Word::Lend(n)
+}
+
+// A line's word, where it has that word's fields.
+fn word_of(line: &[u8]) -> Word {
+    if is_same(line, b"SHOW") {
+        return Word::Show;
+    }
+    let end = bytes::scan::find(line, 0, line.len(), COMMA);
+    if is_same(&line[..end], b"LENT") {
+        return lend_word(line, end);
+    }
+    Word::Other
+}
+
+pub fn word_at(text: &[u8], at: usize) -> Word
+    requires { ⌜ at < length (now text) ⌝ }
+{
+    let end = bytes::scan::find(text, at, text.len(), LINE_END);
+    word_of(&text[at..end])
+}

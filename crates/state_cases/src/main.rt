@@ -1,0 +1,662 @@
+// Cases that no script can say, run on the engine: states made by hand, what lies past the counts, a million codes,
+// numbers too long for a line, and what a call leaves as it was. Lot 10, step 5.
+use engine::end_session;
+use engine::enter_closing_order;
+use engine::enter_group;
+use engine::increase_money;
+use engine::increase_pieces;
+use engine::opening;
+use engine::start_closing;
+use host::enter_order;
+use libc::STDOUT_FILENO;
+use market::Answer;
+use market::Kind;
+use market::Order;
+use market::Outcome;
+use market::Phase;
+use market::Security;
+use market::Side;
+use market::State;
+use market::Ticket;
+use market::TimeInForce;
+use market::Turnover;
+use market::book_of;
+use market::state_of;
+
+// Printing: a label, then an answer, a position or eight numbers of the trade list.
+fn text(bytes: &[u8]) {
+    io::write_all(STDOUT_FILENO, bytes);
+}
+
+fn number(x: u64) {
+    text(b",");
+    io::print_decimal(STDOUT_FILENO, x);
+}
+
+fn four(a: u64, b: u64, c: u64, d: u64) {
+    number(a);
+    number(b);
+    number(c);
+    number(d);
+}
+
+fn refusal(label: &[u8], number_of: u64, place: u64) {
+    text(label);
+    number(number_of);
+    number(place);
+    text(b",0,0,0,0\n");
+}
+
+fn done(label: &[u8], code: u64, filled: u64, left: u64, trades: u64) {
+    text(label);
+    text(b",0,0");
+    four(code, filled, left, trades);
+    text(b"\n");
+}
+
+// An answer as the day file prints it: refusal, place, code, filled, left, trades.
+fn answer(label: &[u8], a: Answer) {
+    match a {
+        Answer::Refused(number_of, place) => refusal(label, number_of, place),
+        Answer::Done(code, filled, left, trades) => done(label, code, filled, left, trades),
+    }
+}
+
+// Prints the answer and goes on with the state.
+fn after(label: &[u8], o: Outcome) -> State {
+    let a = o.answer;
+    answer(label, a);
+    o.state
+}
+
+fn position(label: &[u8], free: u64, blocked: u64) {
+    text(label);
+    number(free);
+    number(blocked);
+    text(b"\n");
+}
+
+// Free and blocked money at participant * 16 + currency.
+fn money(label: &[u8], s: State, place: usize) {
+    if place < 256 {
+        position(label, s.money[2 * place], s.money[2 * place + 1]);
+    }
+}
+
+// Eight numbers of the trade list from `first` on, as many as one trade takes.
+fn numbers(label: &[u8], trades: &[u64], first: usize) {
+    if trades.len() < 8 {
+        return;
+    }
+    if trades.len() - 8 < first {
+        return;
+    }
+    text(label);
+    four(
+        trades[first],
+        trades[first + 1],
+        trades[first + 2],
+        trades[first + 3],
+    );
+    four(
+        trades[first + 4],
+        trades[first + 5],
+        trades[first + 6],
+        trades[first + 7],
+    );
+    text(b"\n");
+}
+
+// The day that all cases start from: two participants, currencies and securities.
+fn table() -> [Security; 16] {
+    [Security {
+        currency: 0,
+        lot: 10,
+        step: 5,
+    }; 16]
+}
+
+fn day() -> State {
+    let o = opening(2, 2, 2, table());
+    o.state
+}
+
+// The state with this money at participant * 16 + currency.
+fn with_money(s: State, place: usize, free: u64, blocked: u64) -> State {
+    let mut t = s;
+    if place < 256 {
+        t.money[2 * place] = free;
+        t.money[2 * place + 1] = blocked;
+    }
+    t
+}
+
+// The state with these pieces at participant * 16 + security.
+fn with_pieces(s: State, place: usize, free: u64, blocked: u64) -> State {
+    let mut t = s;
+    if place < 256 {
+        t.pieces[2 * place] = free;
+        t.pieces[2 * place + 1] = blocked;
+    }
+    t
+}
+
+// Question 1, of a state made by hand.
+fn asked(label: &[u8], s: State) {
+    after(label, increase_money(s, 0, 0, 1));
+}
+
+fn line_past_the_count() {
+    let mut lines = table();
+    lines[1] = Security {
+        currency: 9,
+        lot: 0,
+        step: 0,
+    };
+    after(
+        b"a wrong line past the count is not read",
+        opening(1, 1, 1, lines),
+    );
+}
+
+fn refused_opening_is_unsound() {
+    let s = after(b"refused opening: 17", opening(0, 0, 0, table()));
+    after(b"its state: 1", increase_money(s, 0, 0, 1));
+}
+
+fn largest_number() {
+    after(
+        b"the largest number: 7",
+        increase_pieces(day(), 0, 0, 18446744073709551615),
+    );
+}
+
+fn asked_counts(label: &[u8], participants: u64, currencies: u64, securities: u64) {
+    let mut s = day();
+    s.participants = participants;
+    s.currencies = currencies;
+    s.securities = securities;
+    asked(label, s);
+}
+
+fn unsound_counts() {
+    asked_counts(b"no participants: 1", 0, 2, 2);
+    asked_counts(b"17 participants: 1", 17, 2, 2);
+    asked_counts(b"5 currencies: 1", 2, 5, 2);
+    asked_counts(b"far too many securities: 1", 2, 2, 18446744073709551615);
+}
+
+fn asked_line(label: &[u8], currency: u64, lot: u64, step: u64) {
+    let mut s = day();
+    s.table[1] = Security {
+        currency,
+        lot,
+        step,
+    };
+    asked(label, s);
+}
+
+fn unsound_lines() {
+    asked_line(b"a line's currency unknown: 1", 2, 10, 5);
+    asked_line(b"lot 0: 1", 0, 0, 5);
+    asked_line(b"step 0: 1", 0, 10, 0);
+}
+
+fn asked_turnover(label: &[u8], codes: u64, pieces: u64, money: u64) {
+    let mut s = day();
+    s.codes = codes;
+    s.turnover[1] = Turnover { pieces, money };
+    asked(label, s);
+}
+
+fn unsound_turnover() {
+    asked_turnover(b"1000001 codes: 1", 1000001, 0, 0);
+    asked_turnover(
+        b"more pieces traded than one code can: 1",
+        1,
+        10000001,
+        10000001,
+    );
+    asked_turnover(b"less money than pieces: 1", 1, 10, 9);
+    asked_turnover(b"more than 1000000 a piece: 1", 1, 10, 10000001);
+}
+
+fn sell_order(code: u64, participant: u64, security: u64, lots: u64, kind: Kind) -> Order {
+    Order {
+        code,
+        participant,
+        side: Side::Sell,
+        security,
+        lots,
+        kind,
+    }
+}
+
+// 4 codes given, 100 pieces of participant 1 in security 0 blocked, this order waiting.
+fn waiting(o: Order) -> State {
+    let mut s = with_pieces(day(), 16, 0, 100);
+    s.codes = 4;
+    s.orders[0] = o;
+    s.count = 1;
+    s
+}
+
+fn asked_order(label: &[u8], code: u64, participant: u64, security: u64, lots: u64) {
+    let o = sell_order(code, participant, security, lots, Kind::Kept(95));
+    asked(label, waiting(o));
+}
+
+fn order_names() {
+    asked_order(b"a waiting order, sound", 3, 1, 0, 10);
+    asked_order(b"code 0: 1", 0, 1, 0, 10);
+    asked_order(b"a code not given: 1", 5, 1, 0, 10);
+    asked_order(b"unknown participant: 1", 3, 2, 0, 10);
+    asked_order(b"unknown security: 1", 3, 1, 2, 10);
+}
+
+fn order_lots() {
+    asked_order(b"no lots: 1", 3, 1, 0, 0);
+    asked_order(b"10001 lots: 1", 3, 1, 0, 10001);
+}
+
+fn asked_kind(label: &[u8], kind: Kind) {
+    asked(label, waiting(sell_order(3, 1, 0, 10, kind)));
+}
+
+fn kinds_while_open() {
+    asked_kind(b"price 0: 1", Kind::Kept(0));
+    asked_kind(b"price off the step: 1", Kind::Kept(96));
+    asked_kind(b"price above 1000000: 1", Kind::Kept(1000005));
+    asked_kind(b"a closing order while open: 1", Kind::Closing);
+}
+
+// The same order while closing, with Q pieces and T money of its security traded.
+fn asked_closing(label: &[u8], kind: Kind, pieces: u64, money: u64) {
+    let s = waiting(sell_order(3, 1, 0, 10, kind));
+    let cash = s.money;
+    let stock = s.pieces;
+    let mut t = state_of(s, Phase::Closing, cash, stock, book_of(s));
+    t.turnover[0] = Turnover { pieces, money };
+    asked(label, t);
+}
+
+fn kinds_while_closing() {
+    asked_closing(b"a kept order while closing: 1", Kind::Kept(95), 0, 0);
+    asked_closing(b"a closing order where Q is 0: 1", Kind::Closing, 0, 0);
+    asked_closing(
+        b"a closing order where Q is above 0, sound",
+        Kind::Closing,
+        10,
+        950,
+    );
+}
+
+// Two orders of 5 lots, the first of code 3.
+fn asked_list(label: &[u8], second: u64, count: usize) {
+    let mut s = waiting(sell_order(3, 1, 0, 5, Kind::Kept(95)));
+    s.orders[1] = sell_order(second, 1, 0, 5, Kind::Kept(95));
+    s.count = count;
+    asked(label, s);
+}
+
+fn lists() {
+    asked_list(b"codes that do not rise: 1", 3, 2);
+    asked_list(b"two orders that share what is blocked, sound", 4, 2);
+    asked_list(b"129 orders: 1", 4, 129);
+    asked_list(b"far too many orders: 1", 4, 18446744073709551615);
+}
+
+fn blocked_pieces() {
+    let s = waiting(sell_order(3, 1, 0, 10, Kind::Kept(95)));
+    asked(b"a piece too few blocked: 1", with_pieces(s, 16, 0, 99));
+    asked(
+        b"pieces blocked for no order: 1",
+        with_pieces(day(), 1, 0, 1),
+    );
+}
+
+fn asked_money(label: &[u8], place: usize, free: u64, blocked: u64) {
+    asked(label, with_money(day(), place, free, blocked));
+}
+
+fn unsound_money() {
+    asked_money(b"money blocked for no order: 1", 16, 0, 1);
+    asked_money(b"a total above its limit: 1", 17, 1000000000000001, 0);
+    asked_money(
+        b"the largest amounts: 1",
+        17,
+        18446744073709551615,
+        18446744073709551615,
+    );
+}
+
+// A day with anything past its counts.
+fn with_unread() -> State {
+    let s = with_money(day(), 2, 18446744073709551615, 7);
+    let s = with_money(s, 32, 18446744073709551615, 7);
+    let mut s = with_pieces(s, 2, 18446744073709551615, 7);
+    s.table[2] = Security {
+        currency: 99,
+        lot: 0,
+        step: 0,
+    };
+    s.turnover[2] = Turnover {
+        pieces: 18446744073709551615,
+        money: 0,
+    };
+    s.orders[0] = sell_order(18446744073709551615, 99, 99, 0, Kind::Closing);
+    s
+}
+
+fn unread() {
+    let s = after(
+        b"anything past the counts, sound",
+        increase_money(with_unread(), 0, 0, 1),
+    );
+    money(b"an unknown currency's position stays", s, 2);
+}
+
+// A refusal hands back the very state, sound or not.
+fn handed_back() {
+    let s = after(b"amount 0: 7", increase_money(with_unread(), 0, 0, 0));
+    money(b"what is not read is handed back", s, 32);
+    let s = with_money(day(), 16, 5, 1);
+    let s = after(b"money blocked for no order: 1", increase_money(s, 1, 0, 1));
+    money(b"and handed back", s, 16);
+}
+
+// Participant 0 has 100000 in money, participant 1 has 200 pieces of security 0.
+fn funded() -> State {
+    let o = increase_money(day(), 0, 0, 100000);
+    let o = increase_pieces(o.state, 1, 0, 200);
+    o.state
+}
+
+fn buy(security: u64, price: u64, lots: u64) -> Ticket {
+    Ticket {
+        side: Side::Buy,
+        security,
+        price,
+        lots,
+    }
+}
+
+fn sell(security: u64, price: u64, lots: u64) -> Ticket {
+    Ticket {
+        side: Side::Sell,
+        security,
+        price,
+        lots,
+    }
+}
+
+// An order lent a list of sevens: its first trade and the 8 numbers behind it.
+fn traded(label: &[u8], s: State, participant: u64, t: Ticket, force: TimeInForce) -> State {
+    let mut trades = [7u64; 1088];
+    let side = t.side;
+    let o = enter_order(
+        s,
+        participant,
+        side,
+        t.security,
+        t.price,
+        t.lots,
+        force,
+        &mut trades,
+    );
+    let s = after(label, o);
+    numbers(label, &trades, 0);
+    numbers(b"the next 8 numbers", &trades, 8);
+    s
+}
+
+// A kept order whose trades are not looked at.
+fn order(s: State, participant: u64, t: Ticket) -> Outcome {
+    let mut trades = [0u64; 1088];
+    let side = t.side;
+    let force = TimeInForce::Kept;
+    enter_order(
+        s,
+        participant,
+        side,
+        t.security,
+        t.price,
+        t.lots,
+        force,
+        &mut trades,
+    )
+}
+
+fn kept(s: State, participant: u64, t: Ticket) -> State {
+    let o = order(s, participant, t);
+    o.state
+}
+
+fn one_trade() {
+    let s = kept(funded(), 1, sell(0, 95, 10));
+    let s = traded(b"buy 20 at 100", s, 0, buy(0, 100, 20), TimeInForce::Kept);
+    let force = TimeInForce::FillOrKill;
+    traded(b"sell 5 whole or nothing", s, 1, sell(0, 100, 5), force);
+}
+
+fn own_order() {
+    let o = increase_pieces(funded(), 0, 0, 100);
+    let s = kept(o.state, 0, sell(0, 95, 10));
+    let label = b"buy 10 at 100 from himself";
+    traded(label, s, 0, buy(0, 100, 10), TimeInForce::Kept);
+}
+
+fn three_sells() -> State {
+    let s = kept(funded(), 1, sell(0, 100, 5));
+    let s = kept(s, 1, sell(0, 95, 5));
+    kept(s, 1, sell(0, 95, 5))
+}
+
+fn bought_at_once(label: &[u8], s: State, lots: u64) -> State {
+    let force = TimeInForce::ImmediateOrCancel;
+    traded(label, s, 0, buy(0, 100, lots), force)
+}
+
+fn priorities() {
+    let s = bought_at_once(b"the cheaper one, of two the earlier", three_sells(), 4);
+    let s = bought_at_once(b"its last lot, then the next", s, 6);
+    bought_at_once(b"then the dearer one", s, 6);
+}
+
+fn bought(label: &[u8], s: State) {
+    after(label, order(s, 0, buy(0, 5, 1)));
+}
+
+fn order_codes() {
+    let mut s = funded();
+    s.participants = 0;
+    bought(b"unsound: 1", s);
+    let mut s = funded();
+    s.codes = 1000000;
+    bought(b"1000000 codes given: 13", s);
+    s.codes = 999999;
+    bought(b"the last code", s);
+}
+
+fn linked_reserves() -> State {
+    let o = increase_pieces(day(), 0, 0, 100);
+    let o = increase_money(o.state, 1, 0, 10000);
+    let o = increase_pieces(o.state, 1, 1, 100);
+    o.state
+}
+
+// Participant 0 has 100 pieces of security 0; participant 1 buys 10 lots of it at 100 and sells 10 of security 1 at 95.
+fn linked_day() -> State {
+    let s = kept(linked_reserves(), 1, buy(0, 100, 10));
+    kept(s, 1, sell(1, 95, 10))
+}
+
+// A group of participant 0, lent a list of sevens; then 8 numbers of the list from `first` on.
+fn grouped(label: &[u8], s: State, count: u64, members: [Ticket; 8], listed: &[u8], first: usize) {
+    let mut trades = [7u64; 1088];
+    let o = enter_group(s, 0, count, members, &mut trades);
+    after(label, o);
+    numbers(listed, &trades, first);
+}
+
+// 10 lots of security 0 are sold at 100, then 10 of security 1 bought at this price.
+fn sold_and_bought(price: u64) -> [Ticket; 8] {
+    let mut members = [sell(0, 100, 10); 8];
+    members[1] = buy(1, price, 10);
+    members
+}
+
+fn groups_of_two() {
+    grouped(
+        b"sell, then buy for the proceeds",
+        linked_day(),
+        2,
+        sold_and_bought(100),
+        b"the numbers after them",
+        16,
+    );
+    grouped(
+        b"proceeds too small: 14, place 2",
+        linked_day(),
+        2,
+        sold_and_bought(105),
+        b"the list is as before",
+        0,
+    );
+}
+
+fn group_of_eight() {
+    let mut members = [sell(0, 100, 1); 8];
+    members[7] = sell(0, 105, 3);
+    grouped(
+        b"eight members, the last refused: 15, place 8",
+        linked_day(),
+        8,
+        members,
+        b"the list is as before",
+        0,
+    );
+}
+
+fn linked_pair(label: &[u8], s: State) {
+    let mut trades = [0u64; 1088];
+    let members = [sell(0, 100, 1); 8];
+    let o = enter_group(s, 0, 2, members, &mut trades);
+    after(label, o);
+}
+
+fn group_codes() {
+    let mut s = linked_day();
+    s.currencies = 0;
+    linked_pair(b"unsound: 1", s);
+    let mut s = linked_day();
+    s.codes = 999999;
+    linked_pair(b"codes for one member only: 13, place 2", s);
+}
+
+// Trades 10 at 95 and 5 at 100: the closing price is 96. Participant 0 still buys 5 at 100.
+fn turned_over() -> State {
+    let s = kept(funded(), 1, sell(0, 95, 10));
+    let s = kept(s, 0, buy(0, 100, 20));
+    kept(s, 1, sell(0, 100, 5))
+}
+
+fn closing() -> State {
+    let o = start_closing(turned_over());
+    o.state
+}
+
+fn closing_codes() {
+    let mut s = closing();
+    s.codes = 1000000;
+    after(
+        b"1000000 codes given: 13",
+        enter_closing_order(s, 0, Side::Buy, 0, 1),
+    );
+}
+
+fn unsound_session() {
+    let mut trades = [0u64; 1088];
+    let mut s = turned_over();
+    s.count = 129;
+    after(b"start of an unsound state: 1", start_closing(s));
+    after(
+        b"closing order: 1",
+        enter_closing_order(s, 0, Side::Buy, 0, 1),
+    );
+    after(b"end: 1", end_session(s, &mut trades));
+}
+
+// Closing buys 3 and 4, sell 5.
+fn paired() -> State {
+    let o = enter_closing_order(closing(), 0, Side::Buy, 0, 3);
+    let o = enter_closing_order(o.state, 0, Side::Buy, 0, 4);
+    let o = enter_closing_order(o.state, 1, Side::Sell, 0, 5);
+    o.state
+}
+
+fn two_pairs() {
+    let mut trades = [7u64; 1088];
+    after(b"end of the session", end_session(paired(), &mut trades));
+    numbers(b"the numbers after them", &trades, 16);
+}
+
+// 128 closing orders of one lot: participant 0 buys and participant 1 sells, in turn.
+fn full() -> State {
+    let o = increase_money(closing(), 0, 0, 1000000);
+    let o = increase_pieces(o.state, 1, 0, 10000);
+    let mut s = o.state;
+    let mut i: u64 = 0;
+    while i < 64 {
+        let o = enter_closing_order(s, 0, Side::Buy, 0, 1);
+        let o = enter_closing_order(o.state, 1, Side::Sell, 0, 1);
+        let t = o.state;
+        s = t;
+        i += 1;
+    }
+    s
+}
+
+fn all_pairs() {
+    let mut trades = [0u64; 1088];
+    after(b"64 trades", end_session(full(), &mut trades));
+    numbers(b"the last of them", &trades, 504);
+    numbers(b"the numbers after it", &trades, 512);
+}
+
+fn states() {
+    unsound_counts();
+    unsound_lines();
+    unsound_turnover();
+    order_names();
+    order_lots();
+    kinds_while_open();
+    kinds_while_closing();
+    lists();
+    blocked_pieces();
+    unsound_money();
+}
+
+fn left_as_it_was() {
+    unread();
+    handed_back();
+    one_trade();
+    own_order();
+    priorities();
+    groups_of_two();
+    group_of_eight();
+    two_pairs();
+    all_pairs();
+}
+
+fn main() {
+    line_past_the_count();
+    refused_opening_is_unsound();
+    largest_number();
+    states();
+    left_as_it_was();
+    order_codes();
+    group_codes();
+    closing_codes();
+    unsound_session();
+}
