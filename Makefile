@@ -6,6 +6,9 @@ SCRIPT ?= crates/replay/stdin
 FIRST ?= 1
 COUNT ?= 6000
 
+# What a library is built from: it is built again where one of these is newer.
+SOURCES := crates.txt $(shell find crates -type f)
+
 MODEL = cargo run --quiet --release --manifest-path tests/model/Cargo.toml --
 
 # The last line is the verdict of `rt ci`.
@@ -23,11 +26,12 @@ run: beamgantry
 beamgantry:
 	@scripts/prove.sh check beamgantry
 
-library:
-	@scripts/prove.sh staticlib exports
+library: target/staticlib/libexports.a
 
-script_library:
-	@scripts/prove.sh staticlib script
+script_library: target/staticlib/libscript.a
+
+target/staticlib/lib%.a: $(SOURCES)
+	@scripts/prove.sh staticlib $*
 
 compare: library script_library
 	@$(MODEL) compare $(FIRST) $(COUNT)
