@@ -13,9 +13,9 @@ use Rattle.market.specs.View.{dayOf}
 use Rattle.market.specs.TradeList.{Trade, written}
 use Rattle.market.specs.Answers.{Result}
 use Rattle.market.specs.Calls.{Call, cancel, closingOrder, startClosing}
-use Rattle.market.specs.Questions.{Question, firstNo, questions}
+use Rattle.market.specs.Questions.{firstNo, questions}
 use Rattle.market.specs.Entry.{placed}
-use Rattle.market.specs.Step.{Reply, allQuestions, answerBy, effect, result, step}
+use Rattle.market.specs.Step.{allQuestions, answerBy, effect, result, step}
 use Rattle.market.specs.Parts.{Carries}
 
 -- its questions ask for no list, and it makes no trade

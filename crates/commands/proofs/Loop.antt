@@ -1,7 +1,7 @@
 -- A command in the loop: by what came of its line before any waiting order was read.
 use Prim.Native.Nat.{ℕ, _<_}
 use native.Mathlib.Omega.{arith}
-use mathlib.Core.Path.{_≡_, refl, sym, ap, subst, _∙_}
+use mathlib.Core.Path.{_≡_, refl, sym, subst}
 use mathlib.Core.List.{List}
 use mathlib.Core.Bool.{true, false}
 use lib.ListN.{length}
@@ -28,9 +28,9 @@ use Rattle.waiting.specs.Leaving.{Leavable, Leaves}
 use Rattle.orders.specs.declared.Found.{Found}
 use Rattle.orders.specs.declared.Found.the-variants.{At, Nothing}
 use Rattle.orders.specs.Finding.{OfSecurity, foundAt}
-use Rattle.orders.specs.Entering.{Enterable, Enters, entryWith, fillableIn}
+use Rattle.orders.specs.Entering.{Enterable, Enters, fillableIn}
 use Rattle.orders.proofs.Cancelling.{cancel-carries, cancel-none, found-known, found-leaves}
-use Rattle.orders.proofs.Calling.{enterable, few-lots, order-enters, refuse-whole, rules-known}
+use Rattle.orders.proofs.Calling.{enterable, order-enters, refuse-whole, rules-known}
 use Rattle.session.specs.Appending.{Appendable, Appends}
 use Rattle.session.proofs.Asking as closing
 use Rattle.calls.proofs.Lists.{any-list, cancel-listless, closing-listless}

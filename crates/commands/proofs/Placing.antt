@@ -22,7 +22,7 @@ use Rattle.printing.proofs.Runs.{flat-lines}
 use Rattle.commands.specs.Command.{Does, carried}
 use Rattle.commands.specs.Output.{commandLines, withRoom, joined, outputsFrom}
 use Rattle.commands.specs.declared.Stand.{Stand}
-use Rattle.commands.specs.Stand.{Going, Onward, room, toPrint}
+use Rattle.commands.specs.Stand.{Going, Onward, room}
 use Rattle.commands.proofs.Rounds.{outputs-next}
 use Rattle.commands.proofs.WithRoom.{with-room-next}
 

@@ -16,13 +16,12 @@ use Rattle.market.specs.Day.{Asset, Day, Money, Pieces, blockedAt, columnsOf, f
 use Rattle.market.specs.Day.{cell, positions, totalLimit}
 use Rattle.market.specs.View.{view}
 use Rattle.market.specs.Needs.{needAt}
-use Rattle.market.specs.Positions.{total}
 use Rattle.market.specs.Sound.{needsAt}
 use Rattle.market.specs.TradeList.{written}
 use Rattle.market.specs.Answers.{Result, isDone}
 use Rattle.market.specs.Matching.{fits}
 use Rattle.market.specs.Calls.{Call, linked}
-use Rattle.market.specs.Questions.{firstNo, questions}
+use Rattle.market.specs.Questions.{firstNo}
 use Rattle.market.specs.Linked.{Group, groupResult, members, passed, stopped}
 use Rattle.market.specs.Step.{Reply, allQuestions, answerBy, effect, result, step}
 use Rattle.market.specs.Opening.{opened, opening}

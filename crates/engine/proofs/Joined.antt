@@ -16,7 +16,7 @@ use Rattle.market.specs.View.{dayOf, view}
 use Rattle.market.specs.Sound.{sound}
 use Rattle.market.specs.Answers.{isDone, numbersOf}
 use Rattle.market.specs.Calls.{Call, noTickets}
-use Rattle.market.specs.Step.{Reply, step}
+use Rattle.market.specs.Step.{Reply}
 use Rattle.market.specs.Parts.{Carries, bookOf, callOf, rulesOf}
 use Rattle.market.specs.Contract.{Does, HandedBack}
 use Rattle.market.proofs.Step.{refused-unchanged, step-unsound}

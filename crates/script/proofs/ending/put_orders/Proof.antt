@@ -1,6 +1,5 @@
 -- `script::ending::put_orders` meets its contract. The loop's invariant: at most a line's room is taken for each one passed.
 use Prim.Native.Nat.{_+_, _*_, _-_, _≤_}
-use native.Mathlib.Omega.{arith}
 use mathlib.Core.Path.{_≡_}
 use lib.ListN.{length}
 use borrow.Author.Needs.{needs}

@@ -1,5 +1,4 @@
 -- `script::words::word_of` is safe.
-use native.Mathlib.Omega.{arith}
 use mathlib.Core.Path.{sym}
 use lib.Seq.{length-take-le}
 use borrow.Author.Needs.{needs}
