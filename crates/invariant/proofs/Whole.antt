@@ -1,44 +1,31 @@
 -- Of a sound day: the limit of each order is in range, and an accepted entry leaves the day sound, with few trades.
 use Prim.Native.Nat.{ℕ, _+_, _≤_}
-use native.Mathlib.Nat.{div-le-of-le-mul}
 use native.Mathlib.Omega.{arith}
 use mathlib.Core.Path.{_≡_}
-use mathlib.Core.Bool.{true}
 use lib.ListN.{length}
-use Rattle.market.specs.declared.Kind.{Kind}
-use Rattle.market.specs.declared.Kind.the-variants as kind
 use Rattle.market.specs.declared.Ticket.{Ticket}
 use Rattle.market.specs.declared.Order.{Order}
 use Rattle.market.specs.declared.TimeInForce.the-variants.{FillOrKill}
 use Rattle.market.specs.Limits.{maxPrice}
 use Rattle.market.specs.Day.{Day, row, turnoverAt}
-use Rattle.market.specs.Needs.{closingPrice, limitOf, priceOr}
+use Rattle.market.specs.Needs.{limitOf}
 use Rattle.market.specs.Positions.{blockFor, releaseFor}
-use Rattle.market.specs.Sound.{kindSound, priceSound}
 use Rattle.market.specs.Calls.{entryOf}
 use Rattle.market.specs.Matching.{Filled, fill}
 use Rattle.market.specs.Questions.{firstNo, orderQuestions}
 use Rattle.market.specs.Entry.{admitted, entered}
-use Rattle.market.proofs.Logic.{and-true, within-high}
 use Rattle.market.proofs.Known.{OrderOk}
+use Rattle.market.proofs.Turnovers.{limit-bound}
 use Rattle.invariant.specs.Standing.{KindOk, Standing}
 use Rattle.invariant.proofs.Flight.{fill-few, fill-flight}
 use Rattle.invariant.proofs.Entry.{flight-ends, flight-starts}
 
--- a kept order's price is in range, and so is T / Q
+-- a kept order's price is in range, and so is the closing price
 pub limit-fits : (d : Day) → Standing d → (o : Order) → OrderOk (d .rules) o → KindOk d o
     → limitOf (d .turnover) o ≤ maxPrice
-limit-fits d g o ok k = go (o .kind) k
-  where
-    go : (k : Kind)
-        → kindSound (d .phase) (row (d .rules) (o .security)) (turnoverAt (d .turnover) (o .security)) k ≡ true
-        → priceOr (closingPrice (turnoverAt (d .turnover) (o .security))) k ≤ maxPrice
-    go (kind.Kept p) h =
-        unfold priceSound in (within-high 1 maxPrice p ((and-true ((and-true h) .1)) .0))
-    go kind.Closing h =
-        unfold closingPrice in
-        (div-le-of-le-mul ((turnoverAt (d .turnover) (o .security)) .pieces)
-        (omega (arith, (g .turnovers (o .security) (ok .security)) .high)))
+limit-fits d g o ok k =
+    limit-bound (d .phase) (row (d .rules) (o .security)) (turnoverAt (d .turnover) (o .security)) (o .kind)
+    (g .turnovers (o .security) (ok .security)) k
 
 -- a member of a group that passed its questions: the day stays sound, and a trade takes a waiting order off or is the
 -- entry's last

@@ -1,6 +1,5 @@
 -- The questions of a closing order in the parts in which code asks them, and the call, on the parts of a sound day.
 use Prim.Native.Nat.{ℕ, _≤_, _<_}
-use native.Mathlib.Nat.{div-le-of-le-mul}
 use native.Mathlib.Omega.{arith}
 use mathlib.Core.Path.{_≡_, refl, ap, sym, _∙_, subst}
 use mathlib.Core.List.{List, [], _++_}
@@ -16,7 +15,6 @@ use Rattle.market.specs.declared.Turnover.{Turnover}
 use Rattle.market.specs.Limits.{maxCodes, maxLots, maxSecurities}
 use Rattle.market.specs.Day.{Day, row, turnoverAt}
 use Rattle.market.specs.View.{dayOf}
-use Rattle.market.specs.Needs.{closingPrice}
 use Rattle.market.specs.Calls.{Call, closingOrder}
 use Rattle.market.specs.Questions.{Question, closingQuestions, firstNo, questions}
 use Rattle.market.specs.Entry.{placed}
@@ -26,6 +24,7 @@ use Rattle.market.proofs.Logic.{within-high}
 use Rattle.market.proofs.Known.{closing-phase}
 use Rattle.market.proofs.Questions.{AllYes, all-yes, hides, passes, yes}
 use Rattle.market.proofs.Parts.{carries-accept, carries-refuse}
+use Rattle.market.proofs.Turnovers.{closing-bounds}
 use Rattle.market.proofs.View.{first-length}
 use Rattle.invariant.specs.Standing.{Standing}
 use Rattle.invariant.proofs.Sound.{ready-standing}
@@ -101,12 +100,10 @@ module _ (r : Rules) (x : Phase) (m k : List ℕ) (b : OrderBook) (ready : Ready
   standing = ready-standing ready
 
   pub askable : Askable r (b .turnover) (b .codes)
-  unfolding closingPrice
   askable = record {
     rules = standing .backed .rulesOk;
     codes = leb-true (b .codes) maxCodes (standing .limit);
-    prices = λ s h.
-        div-le-of-le-mul ((turnoverAt (b .turnover) s) .pieces) (omega (arith, (standing .turnovers s h) .high));
+    prices = λ s h. (closing-bounds (turnoverAt (b .turnover) s) (standing .turnovers s h)) .0;
   }
 
   module _ (p : ℕ) (side : Side) (s n : ℕ) where

@@ -1,17 +1,13 @@
 -- What an orderly day is known to hold, and that sound means orderly and covered.
 use Prim.Native.Nat.{ℕ, _≤_, _<_}
 use native.Mathlib.Omega.{arith}
-use native.Mathlib.Nat.{div-le-of-le-mul}
 use mathlib.Core.Path.{_≡_, refl, sym}
 use mathlib.Core.List.{List}
 use mathlib.Core.Bool.{Bool, true, false}
 use lib.ListN.{length}
 use borrow.Author.Tests.{leb-true, le-ltb, lt-ltb, ltb-true}
-use Rattle.market.specs.declared.Kind.{Kind}
-use Rattle.market.specs.declared.Kind.the-variants as kind
 use Rattle.market.specs.declared.Order.{Order}
 use Rattle.market.specs.declared.Security.{Security}
-use Rattle.market.specs.declared.Phase.{Phase}
 use Rattle.market.specs.declared.State.{State}
 use Rattle.market.specs.declared.Turnover.{Turnover}
 use Rattle.market.specs.Limits.{columns, maxCurrencies, maxLot, maxLots, maxParticipants, maxPrice, maxSecurities}
@@ -21,12 +17,12 @@ use Rattle.market.specs.declared.Rules.{Rules}
 use Rattle.market.specs.Day.{Day, Money, Pieces, currencyOf, row, turnoverAt}
 use Rattle.market.specs.View.{view}
 use Rattle.market.specs.Codes.{given, numbered, rising}
-use Rattle.market.specs.Needs.{closingPrice, limitOf, priceOr}
-use Rattle.market.specs.Sound.{countsSound, kindSound, rowSound, lotsSound, orderSound, priceSound, rulesSound}
+use Rattle.market.specs.Needs.{limitOf}
+use Rattle.market.specs.Sound.{countsSound, kindSound, rowSound, lotsSound, orderSound, rulesSound}
 use Rattle.market.specs.Sound.{sound, turnoverSound}
 use Rattle.market.proofs.Logic.{and-true, below-all, below-intro, both, never, within-high, within-low}
 use Rattle.market.proofs.Known.{RulesOk, rules-ok}
-use Rattle.market.proofs.Turnovers.{turnover-ok}
+use Rattle.market.proofs.Turnovers.{limit-bound, turnover-ok}
 use Rattle.soundness.specs.Parts.{Checked, HoldsNeeds, assetSound, lentDay, orderly, ordersDay, waitingSound}
 use Rattle.soundness.proofs.Loops.{and-none, same}
 
@@ -159,16 +155,6 @@ pub record Reckonable (r : Rules) (t : List Turnover) (o : Order) : Type 0 where
   pub lot : (row r (o .security)) .lot ≤ maxLot
   pub price : limitOf t o ≤ maxPrice
 
-closing-limit : (codes : ℕ) (t : Turnover) → turnoverSound codes t ≡ true → closingPrice t ≤ maxPrice
-unfolding closingPrice
-closing-limit codes t e = div-le-of-le-mul (t .pieces) (omega (arith, (turnover-ok codes t e) .high))
-
-price-limit : (x : Phase) (l : Security) (codes : ℕ) (t : Turnover) (k : Kind) → turnoverSound codes t ≡ true
-    → kindSound x l t k ≡ true → priceOr (closingPrice t) k ≤ maxPrice
-unfolding priceSound
-price-limit x l codes t (kind.Kept p) h e = within-high 1 maxPrice p ((and-true ((and-true e) .1)) .0)
-price-limit x l codes t kind.Closing h e = closing-limit codes t h
-
 pub reckonable : (d : Day) (o : Order) → Orderly d → orderSound d o ≡ true → Reckonable (d .rules) (d .turnover) o
 unfolding orderSound
 reckonable d o y e =
@@ -185,8 +171,8 @@ reckonable d o y e =
       currency = omega (arith, y .rules .currencies);
       lots = within-high 1 maxLots (o .lots) (c .0);
       lot = y .rules .lot s security;
-      price = price-limit (d .phase) (row (d .rules) s) (given d) (turnoverAt (d .turnover) s) (o .kind)
-          (y .turnovers s security) (c .1);
+      price = limit-bound (d .phase) (row (d .rules) s) (turnoverAt (d .turnover) s) (o .kind)
+          (turnover-ok (given d) (turnoverAt (d .turnover) s) (y .turnovers s security)) (c .1);
     }
 
 -- positions in place of a state's own change nothing of what makes it orderly

@@ -554,7 +554,7 @@ fn group_codes() {
     linked_pair(b"codes for one member only: 13, place 2", s);
 }
 
-// Trades 10 at 95 and 5 at 100: the closing price is 96. Participant 0 still buys 5 at 100.
+// Trades 10 at 95 and 5 at 100: the closing price is 97. Participant 0 still buys 5 at 100.
 fn turned_over() -> State {
     let s = kept(funded(), 1, sell(0, 95, 10));
     let s = kept(s, 0, buy(0, 100, 20));
@@ -585,6 +585,25 @@ fn unsound_session() {
         enter_closing_order(s, 0, Side::Buy, 0, 1),
     );
     after(b"end: 1", end_session(s, &mut trades));
+}
+
+// A closing buy of one lot where T is this and Q 9,999,990,000,000: twice T takes 65 bits.
+fn closing_near_the_limit(label: &[u8], traded: u64) {
+    let o = increase_money(closing(), 0, 0, 10000000);
+    let mut s = o.state;
+    s.codes = 999999;
+    s.turnover[0] = Turnover {
+        pieces: 9999990000000,
+        money: traded,
+    };
+    let s = after(label, enter_closing_order(s, 0, Side::Buy, 0, 1));
+    money(b"free and blocked money of the buyer", s, 0);
+}
+
+fn closing_prices() {
+    closing_near_the_limit(b"closing price 1000000", 9999990000000000000);
+    closing_near_the_limit(b"a half below it goes up", 9999985000005000000);
+    closing_near_the_limit(b"one less: 999999", 9999985000004999999);
 }
 
 // Closing buys 3 and 4, sell 5.
@@ -658,5 +677,6 @@ fn main() {
     order_codes();
     group_codes();
     closing_codes();
+    closing_prices();
     unsound_session();
 }

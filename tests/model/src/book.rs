@@ -332,10 +332,11 @@ impl Book {
 }
 
 impl Book {
-    /// T / Q rounded down; 0 where nothing traded.
+    /// T / Q and a half, rounded down; 0 where nothing traded.
     fn closing_price(&self, security: usize) -> i128 {
         let traded = self.traded[security];
-        traded.turnover.checked_div(traded.pieces).unwrap_or(0)
+        let halves = 2 * traded.turnover + traded.pieces;
+        halves.checked_div(2 * traded.pieces).unwrap_or(0)
     }
 }
 

@@ -41,9 +41,14 @@ pub struct Traded {
 }
 
 impl Traded {
-    /// T / Q rounded down; 0 where nothing traded, since no order asks then.
+    /// T / Q to the nearest unit, a half going up; 0 where nothing traded,
+    /// since no order asks then. Twice T may not fit 64 bits.
     pub fn closing_price(&self) -> u64 {
-        self.turnover.checked_div(self.pieces).unwrap_or(0)
+        if self.pieces == 0 {
+            return 0;
+        }
+        let (whole, rest) = (self.turnover / self.pieces, self.turnover % self.pieces);
+        whole + u64::from(rest >= self.pieces - rest)
     }
 }
 
