@@ -15,10 +15,13 @@ pub mod Matching
 pub mod Questions
 pub mod Entry
 pub mod Linked
+pub mod Pairing
 pub mod Closing
+pub mod Auction
 pub mod Step
 pub mod Parts
 pub mod Opening
 pub mod Contract
 pub mod Edge
+pub mod AuctionEdge
 pub mod Example

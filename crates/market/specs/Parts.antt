@@ -16,8 +16,8 @@ use Rattle.market.specs.declared.Ticket.{Ticket}
 use Rattle.market.specs.Day.{Money, Pieces}
 use Rattle.market.specs.View.{Sized, dayOf, view}
 use Rattle.market.specs.Sound.{sound}
-use Rattle.market.specs.Calls.{Call, cancel, closingOrder, decrease, endSession, increase, linked, order}
-use Rattle.market.specs.Calls.{startClosing}
+use Rattle.market.specs.Calls.{Call, cancel, closingOrder, decrease, endCollecting, endSession, increase}
+use Rattle.market.specs.Calls.{linked, order, startClosing, startCollecting}
 use Rattle.market.specs.Step.{step}
 
 -- the rules and the order book of a State
@@ -50,6 +50,8 @@ callOf (coded.Group p n) ms = linked p n ms
 callOf coded.StartClosing ms = startClosing
 callOf (coded.ClosingOrder p side s lots) ms = closingOrder p side s lots
 callOf coded.EndSession ms = endSession
+callOf coded.StartCollecting ms = startCollecting
+callOf coded.EndCollecting ms = endCollecting
 
 -- the day that these parts make up is sound, and its arrays have their lengths
 pub record Ready (r : Rules) (x : Phase) (m k : List ℕ) (b : OrderBook) : Type 0 where

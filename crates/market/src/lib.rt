@@ -5,7 +5,7 @@ ghost use Rattle.market.specs.declared.Answer.the-variants.{Done, Refuse
 ghost use Rattle.market.specs.Limits.{limitsInOrder};
 ghost use Rattle.market.specs.View.{dayOf, view};
 ghost use Rattle.market.specs.Parts.{bookOf, rulesOf};
-ghost use Rattle.market.specs.Sound.{isClosing, isOpen};
+ghost use Rattle.market.specs.Sound.{isClosing, isCollecting, isOpen, keptIn};
 
 pub const MAX_PARTICIPANTS: u64 = 16;
 
@@ -65,8 +65,10 @@ pub enum Side {
     Sell,
 }
 
+// Kept orders are collected for the auction (T-02) before trading opens.
 pub enum Phase {
     Open,
+    Collecting,
     Closing,
     Closed,
 }
@@ -143,6 +145,8 @@ pub enum Call {
     // Participant, side, security, lots.
     ClosingOrder(u64, Side, u64, u64),
     EndSession,
+    StartCollecting,
+    EndCollecting,
 }
 
 // A position's cell is participant * 16 + currency or security, free at twice that cell and blocked behind it; the first
@@ -196,6 +200,18 @@ pub fn is_open(phase: Phase) -> bool
 {
     match phase {
         Phase::Open => true,
+        Phase::Collecting => false,
+        Phase::Closing => false,
+        Phase::Closed => false,
+    }
+}
+
+pub fn is_collecting(phase: Phase) -> bool
+    ensures { λ r. ⌜ r ≡ isCollecting phase ⌝ }
+{
+    match phase {
+        Phase::Open => false,
+        Phase::Collecting => true,
         Phase::Closing => false,
         Phase::Closed => false,
     }
@@ -206,7 +222,20 @@ pub fn is_closing(phase: Phase) -> bool
 {
     match phase {
         Phase::Open => false,
+        Phase::Collecting => false,
         Phase::Closing => true,
+        Phase::Closed => false,
+    }
+}
+
+// May kept orders wait?
+pub fn kept_in(phase: Phase) -> bool
+    ensures { λ r. ⌜ r ≡ keptIn phase ⌝ }
+{
+    match phase {
+        Phase::Open => true,
+        Phase::Collecting => true,
+        Phase::Closing => false,
         Phase::Closed => false,
     }
 }
