@@ -3,32 +3,38 @@ use Prim.Native.Nat.{ℕ, zero, suc, _*_, _≤_}
 use native.Mathlib.Omega.{arith}
 use mathlib.Core.Path.{_≡_, refl}
 use mathlib.Core.List.{List, [], _∷_}
-use mathlib.Core.Bool.{true}
+use mathlib.Core.Bool.{Bool, true, false, cond}
 use lib.ListN.{length, take, drop, length-append, length-drop}
 use borrow.Author.Tests.{leb-true}
+use Rattle.market.specs.declared.Order.{Order}
+use Rattle.market.specs.declared.Ticket.{Ticket}
+use Rattle.market.specs.declared.TimeInForce.{TimeInForce}
 use Rattle.market.specs.Limits.{lentAtLeast, maxMembers, maxTrades, minMembers, numbersPerTrade}
 use Rattle.market.specs.declared.Rules.{Rules}
 use Rattle.market.specs.Day.{Day}
-use Rattle.market.specs.Sound.{sound}
+use Rattle.market.specs.Sound.{isCollecting, sound}
 use Rattle.market.specs.TradeList.{Trade, allNumbers, written}
-use Rattle.market.specs.Answers.{numbersOf}
-use Rattle.market.specs.Calls.{Call, cancel, closingOrder, decrease, endSession, entryOf, increase, linked, order}
-use Rattle.market.specs.Calls.{startClosing}
+use Rattle.market.specs.Answers.{Result, numbersOf}
+use Rattle.market.specs.Calls.{Call, cancel, closingOrder, decrease, endCollecting, endSession, entryOf, increase}
+use Rattle.market.specs.Calls.{linked, order, startClosing, startCollecting}
 use Rattle.market.specs.Questions.{ask, enoughLent, firstNo, orderQuestions, questions}
 use Rattle.market.specs.Matching.{fill}
-use Rattle.market.specs.Entry.{admitted, entered, placed}
+use Rattle.market.specs.Entry.{admitted, entered, placed, taken}
 use Rattle.market.specs.Linked.{Group, groupResult, members, passed, stopped}
-use Rattle.market.specs.Closing.{closingTerms, pairsFrom}
+use Rattle.market.specs.Pairing.{pairsFrom}
+use Rattle.market.specs.Closing.{closingTerms}
+use Rattle.market.specs.Auction.{auctionTerms}
 use Rattle.market.specs.Step.{allQuestions, answerBy, effect, result}
 use Rattle.market.proofs.Logic.{within-high}
 use Rattle.market.proofs.Questions.{all-yes, first-yes, yes, yes-rest}
-use Rattle.market.proofs.Known.{closing-phase}
+use Rattle.market.proofs.Known.{closing-phase, collecting-phase}
+use Rattle.market.proofs.Entry.{enters-open, taken-matched, taken-waits}
 use Rattle.conservation.specs.Book.{Book}
 use Rattle.conservation.specs.SoundKept.{mostTrades}
 use Rattle.conservation.proofs.Good.{Good}
 use Rattle.conservation.proofs.Enter.{enter-ok}
 use Rattle.conservation.proofs.Linked.{GroupOk, members-ok}
-use Rattle.conservation.proofs.Closing.{closing-paired}
+use Rattle.conservation.proofs.Sessions.{auction-paired, closing-paired}
 use Rattle.conservation.proofs.Steps.{order-admitted}
 
 -- at most so many, at most 136, and no more than the list has places for
@@ -51,16 +57,31 @@ take-le zero l = omega arith
 take-le (suc n) [] = omega arith
 take-le (suc n) (x ∷ l) = let r = take-le n l in omega arith
 
+order-few : {U : Type 0} {r : Rules} (b : Book) (d : Day) (l : List ℕ) (p : ℕ) (m : Ticket) (k : TimeInForce) → Good U r b d
+    → enoughLent (length l) ≡ true → firstNo (orderQuestions d p m k) ≡ 0
+    → Few (length (d .waiting)) ((taken d (entryOf d p m) k) .trades) l
+unfolding orderQuestions entered placed
+order-few b d l p m k g lent e = go (isCollecting (d .phase)) refl
+  where
+    o : Order
+    o = entryOf d p m
+
+    go : (z : Bool) → isCollecting (d .phase) ≡ z → Few (length (d .waiting)) ((taken d o k) .trades) l
+    go true c = rw (taken-waits d o k c) (no-trades _ l)
+    go false c =
+        let qs = orderQuestions d p m k in
+        let ok = enter-ok b d p m k g (enters-open k (d .phase) (yes 6 qs (all-yes qs tt e)) c) e in
+        rw (taken-matched d o k c)
+        (few (length (d .waiting)) ((fill (admitted d o) o) .trades) l lent (ok .few) (omega (arith, g .standing .room)))
+
 effect-few : {U : Type 0} {r : Rules} (b : Book) (d : Day) (c : Call) (l : List ℕ) → Good U r b d
     → firstNo (questions d (length l) c) ≡ 0 → Few (mostTrades d c) ((effect d c) .trades) l
-unfolding questions effect entered placed
+unfolding questions effect placed
 effect-few b d (increase x p column a) l g e = no-trades 0 l
 effect-few b d (decrease x p column a) l g e = no-trades 0 l
 effect-few b d (order p m k) l g e =
-    let ok = enter-ok b d p m k g (order-admitted d l p m k e) in
-    few (length (d .waiting)) ((fill (admitted d (entryOf d p m)) (entryOf d p m)) .trades) l
-    (first-yes (enoughLent (length l)) 2 (orderQuestions d p m k) (omega arith) e)
-    (ok .few) (omega (arith, g .standing .room))
+    order-few b d l p m k g (first-yes (enoughLent (length l)) 2 (orderQuestions d p m k) (omega arith) e)
+    (order-admitted d l p m k e)
 effect-few b d (cancel p code) l g e = no-trades 0 l
 effect-few {U} {r} b d (linked p n ms) l g e =
     let qs = questions d (length l) (linked p n ms) in
@@ -80,6 +101,13 @@ effect-few b d endSession l g e =
     let ok = closing-paired b d g (closing-phase (d .phase) (yes 6 qs y)) in
     few (length (d .waiting)) ((pairsFrom closingTerms (d .rules .securities) 0 d) .trades) l (yes 2 qs y)
     (omega (arith, ok .count)) (omega (arith, g .standing .room))
+effect-few b d startCollecting l g e = no-trades 0 l
+effect-few b d endCollecting l g e =
+    let qs = questions d (length l) endCollecting in
+    let y = all-yes qs tt e in
+    let ok = auction-paired b d g (collecting-phase (d .phase) (yes 6 qs y)) in
+    few (length (d .waiting)) ((pairsFrom auctionTerms (d .rules .securities) 0 d) .trades) l (yes 2 qs y)
+    (omega (arith, ok .count)) (omega (arith, g .standing .room))
 
 pub result-few : {U : Type 0} {r : Rules} (b : Book) (d : Day) (c : Call) (l : List ℕ) → Good U r b d
     → Few (mostTrades d c) ((result d (length l) c) .trades) l
@@ -93,10 +121,15 @@ result-few b d c l g = go (firstNo (allQuestions d (length l) c)) refl
 
 -- the answer counts the trades
 effect-counts : (d : Day) (c : Call) → (numbersOf ((effect d c) .answer)) .trades ≡ length ((effect d c) .trades)
-unfolding effect entered placed
+unfolding effect entered placed taken
 effect-counts d (increase x p column a) = refl
 effect-counts d (decrease x p column a) = refl
-effect-counts d (order p m k) = refl
+effect-counts d (order p m k) = go (isCollecting (d .phase))
+  where
+    go : (z : Bool) → let x : Result = cond z (placed d (entryOf d p m)) (entered d (entryOf d p m) k) in
+        (numbersOf (x .answer)) .trades ≡ length (x .trades)
+    go true = refl
+    go false = refl
 effect-counts d (cancel p code) = refl
 effect-counts d (linked p n ms) = go (members 1 d p (take n ms))
   where
@@ -106,6 +139,8 @@ effect-counts d (linked p n ms) = go (members 1 d p (take n ms))
 effect-counts d startClosing = refl
 effect-counts d (closingOrder p side s lots) = refl
 effect-counts d endSession = refl
+effect-counts d startCollecting = refl
+effect-counts d endCollecting = refl
 
 pub result-counts : (d : Day) (lent : ℕ) (c : Call)
     → (numbersOf ((result d lent c) .answer)) .trades ≡ length ((result d lent c) .trades)

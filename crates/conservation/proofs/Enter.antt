@@ -8,6 +8,7 @@ use lib.ListN.{length}
 use borrow.Author.Tests.{eqb-false, ne-eqb, ltb-true}
 use Rattle.market.specs.declared.Ticket.{Ticket}
 use Rattle.market.specs.declared.Order.{Order}
+use Rattle.market.specs.declared.Phase.the-variants.{Open}
 use Rattle.market.specs.declared.Side.{Side}
 use Rattle.market.specs.declared.TimeInForce.{TimeInForce}
 use Rattle.market.specs.declared.TimeInForce.the-variants.{FillOrKill, ImmediateOrCancel, Kept}
@@ -24,7 +25,6 @@ use Rattle.market.specs.Entry.{admitted, finished, leftWaiting, remainder}
 use Rattle.market.proofs.Logic.{within-low}
 use Rattle.market.proofs.Lists.{All}
 use Rattle.market.proofs.Questions.{all-yes, yes}
-use Rattle.market.proofs.Known.{open-phase}
 use Rattle.market.proofs.Waiting.{Differs, Fresh}
 use Rattle.market.proofs.Codes.{own-next}
 use Rattle.market.proofs.Matching.{Uncrossed, uncrossed-append}
@@ -96,10 +96,10 @@ has-room ImmediateOrCancel d e h r = omega arith
 has-room FillOrKill d e h r = omega arith
 
 pub start-ok : {U : Type 0} {r : Rules} (b : Book) (d : Day) (p : ℕ) (m : Ticket) (k : TimeInForce) → Good U r b d
-    → firstNo (orderQuestions d p m k) ≡ 0
+    → d .phase ≡ Open → firstNo (orderQuestions d p m k) ≡ 0
     → Matching U k r (orderIn b (codesOf d p + 1) p m k) (admitted d (entryOf d p m)) (entryOf d p m)
 unfolding orderQuestions admitted blockFor beforeTrades
-start-ok b d p m k g e =
+start-ok b d p m k g phase e =
     let qs = orderQuestions d p m k in
     let y = all-yes qs tt e in
     let o = entryOf d p m in
@@ -107,11 +107,11 @@ start-ok b d p m k g e =
     let hs = ltb-true (m .security) (d .rules .securities) (yes 5 qs y) in
     let some = within-low 1 maxLots (m .lots) (yes 7 qs y) in
     record {
-      flight = flight-starts d p m k (g .standing) e;
+      flight = flight-starts d p m k (g .standing) phase e;
       agree =
           block-agree (b .waiting ++ enters k (shown o)) b d o hp hs [] (g .standing .backed) (g .agree) (yes 14 qs y);
       waiting = rw (g .waiting, enters-waits k o some) (sym (shown-append (d .waiting) (waits k o)));
-      uncrossed = λ u. g .uncrossed u (open-phase (d .phase) (yes 6 qs y));
+      uncrossed = λ u. g .uncrossed u phase;
       room = has-room k d o (yes 12 qs y) (g .standing .room);
     }
 
@@ -128,15 +128,16 @@ pub record EnteredOk (U : Type 0) (r : Rules) (b : Book) (d : Day) (p : ℕ) (m 
     pub few : length (f .trades) ≤ length (d .waiting)
 
 pub enter-ok : {U : Type 0} {r : Rules} (b : Book) (d : Day) (p : ℕ) (m : Ticket) (k : TimeInForce) → Good U r b d
-    → firstNo (orderQuestions d p m k) ≡ 0 → EnteredOk U r b d p m k (fill (admitted d (entryOf d p m)) (entryOf d p m))
+    → d .phase ≡ Open → firstNo (orderQuestions d p m k) ≡ 0
+    → EnteredOk U r b d p m k (fill (admitted d (entryOf d p m)) (entryOf d p m))
 unfolding admitted blockFor orderQuestions
-enter-ok {U} {r} b d p m k g e =
+enter-ok {U} {r} b d p m k g phase e =
     let qs = orderQuestions d p m k in
     let hp = ltb-true p (d .rules .participants) (yes 4 qs (all-yes qs tt e)) in
     let o = entryOf d p m in
     let f = fill (admitted d o) o in
     let b1 = orderIn b (codesOf d p + 1) p m k in
-    let ok = fill-ok U k r (admitted d o) o b1 (start-ok b d p m k g e) in
+    let ok = fill-ok U k r (admitted d o) o b1 (start-ok b d p m k g phase e) in
     record {
       good = finish (feedTrades r b1 (f .trades)) (f .day) (f .entry) k (ok .matching) (ok .ended);
       own = λ h. omega (arith, ok .own, ok .full h);

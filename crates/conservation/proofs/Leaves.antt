@@ -1,25 +1,31 @@
--- Orders that leave: cancelled, or all of them at the start of closing and at its end.
+-- Orders that leave: cancelled, or all of them at the start of closing, at its end and at the end of collecting; and the
+-- start of collecting.
 use Prim.Native.Nat.{ℕ, zero, suc, _<_}
 use native.Mathlib.Omega.{arith}
 use mathlib.Core.Path.{_≡_, refl, ap, sym, _∙_, subst}
 use mathlib.Core.List.{List, [], _∷_}
 use mathlib.Core.Bool.{true}
 use lib.ListN.{length}
+use borrow.Author.Tests.{eqb-true}
 use Rattle.market.specs.declared.Order.{Order}
 use Rattle.market.specs.declared.Phase.{Phase}
+use Rattle.market.specs.declared.Phase.the-variants.{Collecting}
 use Rattle.market.specs.Tests.{removeAt}
 use Rattle.market.specs.declared.Rules.{Rules}
 use Rattle.market.specs.Day.{Day, noOrder, orderAt, withPhase}
+use Rattle.market.specs.Codes.{codesOf, given}
 use Rattle.market.specs.Needs.{needAt}
 use Rattle.market.specs.Positions.{releaseFor}
 use Rattle.market.specs.Waiting.{Index, allLeave, isSomewhere, leave, leaveFirst, nowhere, indexIn, indexOf}
 use Rattle.market.specs.Waiting.{somewhere}
+use Rattle.market.specs.Questions.{noCodeGiven}
 use Rattle.market.proofs.Logic.{never}
 use Rattle.market.proofs.Lists.{all-at, length-remove, sum-remove}
 use Rattle.market.proofs.Known.{OrderOk}
+use Rattle.market.proofs.Codes.{numbered-none}
 use Rattle.market.proofs.Matching.{Uncrossed, uncrossed-remove}
 use Rattle.invariant.proofs.Leaves.{leave-standing, phase-standing}
-use Rattle.conservation.specs.Book.{Book, Waiting, allGone, dropOrder, withOrders}
+use Rattle.conservation.specs.Book.{Book, Waiting, allGone, dropOrder, turnedTo, withOrders}
 use Rattle.conservation.specs.Statement.{allShown}
 use Rattle.conservation.proofs.Listed.{Located, index-located}
 use Rattle.conservation.proofs.Good.{Good, relisted}
@@ -95,6 +101,14 @@ phase-good b d x g e = record {
   waiting = sym (ap allShown e);
   uncrossed = λ u h. subst (λ (w : List Order). Uncrossed w) (sym e) tt;
 }
+
+-- "the start .. of collecting": only the phase changes, since no code has been given and so no order waits
+pub collecting-good : {U : Type 0} {r : Rules} (b : Book) (d : Day) → Good U r b d → noCodeGiven d ≡ true
+    → Good U r (turnedTo Collecting b) (withPhase d Collecting)
+collecting-good {U} {r} b d g e =
+    let none = numbered-none (given d) (codesOf d) (d .waiting) (g .standing .codes) (eqb-true (given d) 0 e) in
+    subst (λ (w : List Waiting). Good U r (turnedTo Collecting (withOrders b w)) (withPhase d Collecting))
+    (ap allShown (sym none) ∙ sym (g .waiting)) (phase-good b d Collecting g none)
 
 pub allLeave-good : {U : Type 0} {r : Rules} (b : Book) (d : Day) (x : Phase) → Good U r b d
     → Good U r (allGone b x) (allLeave d x)

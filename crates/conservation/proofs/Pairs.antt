@@ -9,7 +9,7 @@ use borrow.Author.Tests.{ltb-true, ltb-false}
 use Rattle.market.specs.declared.Kind.{Kind}
 use Rattle.market.specs.declared.Order.{Order}
 use Rattle.market.specs.declared.Phase.{Phase}
-use Rattle.market.specs.declared.Phase.the-variants.{Closed, Closing, Open}
+use Rattle.market.specs.declared.Phase.the-variants.{Closed, Closing, Collecting, Open}
 use Rattle.market.specs.declared.Side.the-variants.{Buy, Sell}
 use Rattle.market.specs.declared.Turnover.{Turnover}
 use Rattle.market.specs.Tests.{_<?_}
@@ -21,7 +21,7 @@ use Rattle.market.specs.Positions.{settle}
 use Rattle.market.specs.Waiting.{takeOff}
 use Rattle.market.specs.TradeList.{Trade, tradeOf}
 use Rattle.market.specs.Matching.{lotsAt}
-use Rattle.market.specs.Closing.{Paired, Terms, followed, pairOne, pairedOff, pairs, pairsFrom, takeBoth}
+use Rattle.market.specs.Pairing.{Paired, Terms, followed, pairOne, pairedOff, pairs, pairsFrom, takeBoth}
 use Rattle.market.proofs.Lists.{all-at}
 use Rattle.market.proofs.Waiting.{Apart, apart-at, apart-takeOff, at-takeOff, length-takeOff}
 use Rattle.market.proofs.Codes.{numbered-apart}
@@ -62,6 +62,7 @@ lots-both w i j n r hi hj ne = go (i <? j) refl
 -- trades outside continuous trading are not counted
 uncounted : (x : Phase) (r : Rules) (t : Trade) (l : List Turnover) → (x ≡ Open → ⊥) → countIn x r t l ≡ l
 uncounted Open r t l h = absurd (h refl)
+uncounted Collecting r t l h = refl
 uncounted Closing r t l h = refl
 uncounted Closed r t l h = refl
 

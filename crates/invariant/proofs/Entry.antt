@@ -22,7 +22,7 @@ use Rattle.market.specs.Day.{Asset, Day, row, turnoverAt, withLots, withMoney, 
 use Rattle.market.specs.Codes.{codesOf, given}
 use Rattle.market.specs.Needs.{needAt, only, piecesOf}
 use Rattle.market.specs.Positions.{blockFor, releaseFor}
-use Rattle.market.specs.Sound.{isClosing, isOpen, kindSound}
+use Rattle.market.specs.Sound.{isClosing, keptIn, kindSound}
 use Rattle.market.specs.Calls.{entryOf}
 use Rattle.market.specs.Questions.{firstNo, orderQuestions}
 use Rattle.market.specs.Entry.{admitted, finished, leftWaiting}
@@ -30,7 +30,7 @@ use Rattle.market.proofs.Logic.{and-true, both, never, within-high}
 use Rattle.market.proofs.Lists.{All, all-append, all-map, sum-append}
 use Rattle.market.proofs.Needs.{need-none}
 use Rattle.market.proofs.Questions.{all-yes, yes}
-use Rattle.market.proofs.Known.{KeptOk, OrderOk, open-phase}
+use Rattle.market.proofs.Known.{KeptOk, OrderOk}
 use Rattle.market.proofs.Turnovers.{TurnoverOk, turnover-room, turnover-spent}
 use Rattle.market.proofs.Codes.{codesOk-next, given-next, numbered-drop, numbered-enter}
 use Rattle.invariant.specs.Standing.{Backed, InFlight, KindOk, PricedOk, Standing}
@@ -52,21 +52,20 @@ priced-kinds d e o h = go (o .kind) h
   where
     go : (k : Kind) → KeptOk (d .rules) (o .security) k
         → kindSound (d .phase) (row (d .rules) (o .security)) (turnoverAt (d .turnover) (o .security)) k ≡ true
-    go (kind.Kept p) h = both (ap isOpen e) h
+    go (kind.Kept p) h = both (ap keptIn e) h
     go kind.Closing h = absurd h
 
--- where an order's questions are all answered "yes", it is in flight once it is admitted
-pub flight-starts : (d : Day) (p : ℕ) (m : Ticket) (k : TimeInForce) → Standing d
+-- where an order's questions are all answered "yes" while open, it is in flight once it is admitted
+pub flight-starts : (d : Day) (p : ℕ) (m : Ticket) (k : TimeInForce) → Standing d → d .phase ≡ Open
     → firstNo (orderQuestions d p m k) ≡ 0 → InFlight (admitted d (entryOf d p m)) (entryOf d p m)
 unfolding orderQuestions admitted blockFor
-flight-starts d p m k g e =
+flight-starts d p m k g phase e =
     let qs = orderQuestions d p m k in
     let y = all-yes qs tt e in
     let o = entryOf d p m in
     let ok = g .backed .rulesOk in
     let hp = ltb-true p (d .rules .participants) (yes 4 qs y) in
     let hs = ltb-true (m .security) (d .rules .securities) (yes 5 qs y) in
-    let phase = open-phase (d .phase) (yes 6 qs y) in
     let top = within-high 1 maxLots (m .lots) (yes 7 qs y) in
     record {
       backed = block-backed d o hp hs (g .backed) (yes 14 qs y);

@@ -1,9 +1,11 @@
--- A pair that trades outside continuous trading keeps a day sound, whatever its terms; and what closing orders tell.
+-- A pair that trades outside continuous trading keeps a day sound, whatever its terms; the terms of the closing session and
+-- of the auction are fair.
 use Prim.Native.Nat.{ℕ, _+_, _≤_}
 use native.Mathlib.Omega.{arith}
 use mathlib.Core.Path.{_≡_, refl, sym, _∙_, subst}
-use mathlib.Core.List.{List, []}
+use mathlib.Core.List.{List, [], _∷_}
 use mathlib.Core.Bool.{true}
+use borrow.Author.Tests.{leb-true}
 use Rattle.market.specs.declared.Kind.{Kind}
 use Rattle.market.specs.declared.Kind.the-variants as kind
 use Rattle.market.specs.declared.Order.{Order}
@@ -13,11 +15,13 @@ use Rattle.market.specs.declared.Side.the-variants.{Buy, Sell}
 use Rattle.market.specs.declared.Turnover.{Turnover}
 use Rattle.market.specs.Day.{Asset, Day, row, noOrder, orderAt, turnoverAt}
 use Rattle.market.specs.Codes.{codesOf, given}
-use Rattle.market.specs.Needs.{limitOf, needAt}
+use Rattle.market.specs.Needs.{limitOf, needAt, priceOr}
 use Rattle.market.specs.Positions.{settle}
-use Rattle.market.specs.Sound.{isOpen, kindSound}
+use Rattle.market.specs.Sound.{keptIn, kindSound}
 use Rattle.market.specs.Matching.{lotsAt, reaches}
-use Rattle.market.specs.Closing.{Terms, closingTerms, pairedOff, takeBoth}
+use Rattle.market.specs.Pairing.{Terms, pairedOff, takeBoth}
+use Rattle.market.specs.Closing.{closingTerms}
+use Rattle.market.specs.Auction.{auctionPrice, auctionTerms}
 use Rattle.market.proofs.Logic.{and-true, never}
 use Rattle.market.proofs.Lists.{All, all-at, all-map}
 use Rattle.market.proofs.Needs.{need-falls, need-none}
@@ -35,7 +39,7 @@ kinds-closing d e o h = go (o .kind) h
         → kindSound (d .phase) (row (d .rules) (o .security)) (turnoverAt (d .turnover) (o .security)) k ≡ true
         → k ≡ kind.Closing
     go (kind.Kept p) h =
-        never (subst (λ (x : Phase). isOpen x ≡ true) e ((and-true h) .0))
+        never (subst (λ (x : Phase). keptIn x ≡ true) e ((and-true h) .0))
     go kind.Closing h = refl
 
 -- the buys that the terms let in can pay their price
@@ -51,6 +55,22 @@ unfolding closingTerms
 closing-fair d s g e =
     all-map (KindOk d) (FairTo s (closingTerms d s) (d .turnover)) (d .waiting)
     (λ o k h z. rw (kinds-closing d e o k, h) (omega arith)) (g .kinds)
+
+-- so are those of the auction: a buy that reaches its price can pay it
+pub auction-fair : (d : Day) (s : ℕ) → Fair s (auctionTerms d s) d
+unfolding auctionTerms
+auction-fair d s = each (d .waiting)
+  where
+    price : ℕ
+    price = auctionPrice (d .waiting) s
+
+    pays : (other : ℕ) (k : Kind) → reaches Sell (kind.Kept price) k ≡ true → price ≤ priceOr other k
+    pays other (kind.Kept q) e = leb-true price q e
+    pays other kind.Closing e = never e
+
+    each : (w : List Order) → All (FairTo s (record { limit = kind.Kept price; price = price }) (d .turnover)) w
+    each [] = tt
+    each (o ∷ w) = (λ h e. pays _ (o .kind) e, each w)
 
 -- one pair, in any phase
 module _ (d : Day) (st : Standing d) (s : ℕ) (k : Kind) (p i j n : ℕ)

@@ -5,6 +5,7 @@ use mathlib.Core.Path.{_≡_}
 use lib.ListN.{length}
 use Rattle.market.specs.declared.Ticket.{Ticket}
 use Rattle.market.specs.declared.Order.{Order}
+use Rattle.market.specs.declared.Phase.the-variants.{Open}
 use Rattle.market.specs.declared.TimeInForce.the-variants.{FillOrKill}
 use Rattle.market.specs.Limits.{maxPrice}
 use Rattle.market.specs.Day.{Day, row, turnoverAt}
@@ -14,7 +15,8 @@ use Rattle.market.specs.Calls.{entryOf}
 use Rattle.market.specs.Matching.{Filled, fill}
 use Rattle.market.specs.Questions.{firstNo, orderQuestions}
 use Rattle.market.specs.Entry.{admitted, entered}
-use Rattle.market.proofs.Known.{OrderOk}
+use Rattle.market.proofs.Questions.{all-yes, yes}
+use Rattle.market.proofs.Known.{OrderOk, open-phase}
 use Rattle.market.proofs.Turnovers.{limit-bound}
 use Rattle.invariant.specs.Standing.{KindOk, Standing}
 use Rattle.invariant.proofs.Flight.{fill-few, fill-flight}
@@ -36,10 +38,16 @@ module _ (d : Day) (p : ℕ) (m : Ticket) (g : Standing d) (e : firstNo (orderQu
   abbrev filled : Filled
   filled = fill (admitted d o) o
 
+  isOpen : d .phase ≡ Open
+  unfolding orderQuestions
+  isOpen =
+      let qs = orderQuestions d p m FillOrKill in
+      open-phase (d .phase) (yes 6 qs (all-yes qs tt e))
+
   pub whole-standing : Standing ((entered d o FillOrKill) .day)
   unfolding entered
   whole-standing =
-      flight-ends (filled .day) (filled .entry) (fill-flight (admitted d o) o (flight-starts d p m FillOrKill g e)) FillOrKill
+      flight-ends (filled .day) (filled .entry) (fill-flight (admitted d o) o (flight-starts d p m FillOrKill g isOpen e)) FillOrKill
       (λ h. absurd (omega arith))
 
   pub whole-few : length ((entered d o FillOrKill) .trades) + length ((entered d o FillOrKill) .day .waiting)

@@ -1,5 +1,5 @@
 -- What holds of a sound day, as facts, and what holds while an entry is matched. Nothing here knows demand 3's book.
-use Prim.Native.Nat.{ℕ, _≤_, _<_}
+use Prim.Native.Nat.{ℕ, _+_, _≤_, _<_}
 use mathlib.Core.Path.{_≡_}
 use mathlib.Core.List.{List, [], _∷_, _++_}
 use mathlib.Core.Bool.{true}
@@ -10,10 +10,11 @@ use Rattle.market.specs.Limits.{columns, maxLots, maxParticipants, maxSecuritie
 use Rattle.market.specs.Tests.{sumOf}
 use Rattle.market.specs.declared.Rules.{Rules}
 use Rattle.market.specs.Day.{Asset, Day, columnsOf, row, cell, position, positions, totalLimit, turnoverAt}
-use Rattle.market.specs.Codes.{codesOf, given}
+use Rattle.market.specs.Codes.{arrivalOf, codeLeft, codesOf, given}
 use Rattle.market.specs.Needs.{needAt, only, piecesOf}
 use Rattle.market.specs.Positions.{totalAt}
 use Rattle.market.specs.Sound.{kindSound}
+use Rattle.market.specs.Questions.{covered, hasRoom}
 use Rattle.market.proofs.Lists.{All}
 use Rattle.market.proofs.Known.{KeptOk, OrderOk, RulesOk}
 use Rattle.market.proofs.Turnovers.{TurnoverOk}
@@ -61,6 +62,16 @@ pub record Standing (d : Day) : Type 0 where
   pub room : length (d .waiting) ≤ maxWaiting
   pub turnoverLength : length (d .turnover) ≡ maxSecurities
   pub turnovers : Turnovers d (λ s. 0)
+
+-- an order that passed its questions and only waits: a closing order, or a kept one while collecting
+pub record Placeable (d : Day) (o : Order) : Type 0 where
+  pub order : OrderOk (d .rules) o
+  pub kind : KindOk d o
+  pub room : hasRoom d ≡ true
+  pub left : codeLeft d (o .participant) ≡ true
+  pub covers : covered d o ≡ true
+  pub arrival : arrivalOf o ≡ given d + 1
+  pub code : o .code ≡ codesOf d (o .participant) + 1
 
 -- between two trades of an entry e: its need is blocked, it does not wait yet, and Q and T have room for it
 pub record InFlight (d : Day) (e : Order) : Type 0 where
