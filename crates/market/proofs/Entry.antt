@@ -7,7 +7,7 @@ use Rattle.market.specs.declared.Phase.the-variants.{Closed, Closing, Co
 use Rattle.market.specs.declared.TimeInForce.{TimeInForce}
 use Rattle.market.specs.declared.TimeInForce.the-variants.{FillOrKill, ImmediateOrCancel, Kept}
 use Rattle.market.specs.Day.{Day}
-use Rattle.market.specs.Sound.{isCollecting}
+use Rattle.market.specs.Sound.{isCollecting, isOpen}
 use Rattle.market.specs.Questions.{entersIn}
 use Rattle.market.specs.Entry.{entered, placed, taken}
 use Rattle.market.proofs.Logic.{never}
@@ -20,6 +20,13 @@ enters-open Kept Closing e n = never e
 enters-open Kept Closed e n = never e
 enters-open ImmediateOrCancel x e n = open-phase x e
 enters-open FillOrKill x e n = open-phase x e
+
+-- while open nothing is collected
+pub open-matched : (x : Phase) → isOpen x ≡ true → isCollecting x ≡ false
+open-matched Open e = refl
+open-matched Collecting e = never e
+open-matched Closing e = never e
+open-matched Closed e = never e
 
 pub enters-kept : (k : TimeInForce) (x : Phase) → entersIn k x ≡ true → isCollecting x ≡ true → k ≡ Kept
 enters-kept Kept x e c = refl

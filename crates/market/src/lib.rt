@@ -308,6 +308,17 @@ pub fn declined(book: OrderBook, phase: Phase, number: u64) -> Carried
     }
 }
 
+// The registered order: code, lots filled, lots left waiting and trades are those that the book has last.
+pub fn registered(book: OrderBook, phase: Phase) -> Carried
+    ensures { λ r. ⌜ r ≡ record { answer = Done (book .codes) (book .filled) (book .left) (book .trades); phase = phase; book = book } ⌝ }
+{
+    Carried {
+        answer: Answer::Done(book.codes, book.filled, book.left, book.trades),
+        phase,
+        book,
+    }
+}
+
 // A refusal with place 0, and the state as it was.
 pub fn refused(s: State, number: u64) -> Outcome
     ensures { λ r. ⌜ r ≡ record { answer = Refused number 0; state = s } ⌝ }

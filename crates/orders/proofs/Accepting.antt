@@ -65,7 +65,7 @@ module _ {r : Rules} {l : Security} {b : OrderBook} {e : Order} {f : TimeInForce
       let y = all-yes qs tt (a .asked) in
       subst (λ (x : Order). Passed d x f) (sym (a .entry))
       (record {
-        flight = flight-starts d p q f (a .standing) (a .asked);
+        flight = flight-starts d p q f (a .standing) refl (a .asked);
         covers = yes 14 qs y;
         participant = ltb-true p (r .participants) (yes 4 qs y);
         security = ltb-true (q .security) (r .securities) (yes 5 qs y);

@@ -1,7 +1,7 @@
 -- What the questions of an order tell, on the parts of a sound day.
 use Prim.Native.Nat.{ℕ, _≤_, _<_}
 use native.Mathlib.Omega.{arith}
-use mathlib.Core.Path.{_≡_, ap, sym, _∙_, subst}
+use mathlib.Core.Path.{_≡_, refl, ap, sym, _∙_, subst}
 use mathlib.Core.List.{List, [], _∷_}
 use mathlib.Core.Bool.{true, false}
 use borrow.Author.Tests.{leb-true, ltb-true}
@@ -12,17 +12,22 @@ use Rattle.market.specs.declared.Phase.{Phase}
 use Rattle.market.specs.declared.Phase.the-variants.{Open}
 use Rattle.market.specs.declared.Rules.{Rules}
 use Rattle.market.specs.declared.TimeInForce.{TimeInForce}
+use Rattle.market.specs.declared.TimeInForce.the-variants.{FillOrKill}
 use Rattle.market.specs.Limits.{maxCodes, maxLots, maxSecurities}
 use Rattle.market.specs.Day.{Day, row}
 use Rattle.market.specs.View.{dayOf}
-use Rattle.market.specs.Questions.{Question, ask, entryQuestions, firstNo, orderQuestions}
+use Rattle.market.specs.Sound.{isCollecting}
+use Rattle.market.specs.Questions.{Question, ask, entersIn, entryQuestions, firstNo, orderQuestions}
 use Rattle.market.proofs.Lists.{all-map}
 use Rattle.market.proofs.Questions.{AllYes, all-yes, hides, passes, yes}
-use Rattle.market.proofs.Known.{OrderOk, open-phase}
+use Rattle.market.proofs.Known.{OrderOk}
+use Rattle.market.proofs.Entry.{enters-kept, enters-open, open-matched}
 use Rattle.market.proofs.View.{first-length}
 use Rattle.invariant.specs.Standing.{Standing}
+use Rattle.invariant.proofs.Placed.{kept-placeable}
 use Rattle.matching.specs.Filling.{openDay}
 use Rattle.matching.specs.Orders.{FewLots, waitingIn}
+use Rattle.waiting.specs.Appending.{Admits}
 use Rattle.orders.specs.Entering.{Accepts, Known, entryWith, fillableIn, orderNo}
 use Rattle.orders.proofs.Asking.{whole-last}
 
@@ -80,19 +85,40 @@ module _ (r : Rules) (x : Phase) (m k : List ℕ) (b : OrderBook) (standing : St
             standing .backed .rulesOk .securities,
           )
 
-      pub opens : x ≡ Open
+      enters : entersIn f x ≡ true
       unfolding orderQuestions
-      opens = open-phase x (yes 6 (orderQuestions d p t f) yeses)
+      enters = yes 6 (orderQuestions d p t f) yeses
 
-      pub same-day : d ≡ openDay r m k b
-      same-day = ap (λ (z : Phase). dayOf r z m k b) opens
+      -- while collecting it is a kept one, which only waits
+      pub waits : isCollecting x ≡ true → {e : Order} → e ≡ entryWith (b .codes) p t → Admits r x (row r (t .security)) b e m k
+      waits collects entry =
+          rw entry
+          (record {
+            row = refl;
+            standing = standing;
+            placeable =
+                kept-placeable d p t
+                (subst (λ (z : TimeInForce). orderNo d p t z ≡ 0) (enters-kept f x enters collects) none);
+          })
 
-      pub accepts : {e : Order} → e ≡ entryWith (b .codes) p t → Accepts r (row r (t .security)) b e f m k
-      accepts entry = record {
-        row = ap (λ (o : Order). row r (o .security)) entry;
-        standing = subst Standing same-day standing;
-        participant = p;
-        member = t;
-        entry = entry;
-        asked = ap (λ (z : Day). orderNo z p t f) (sym same-day) ∙ none;
-      }
+      -- otherwise the phase is open
+      module _ (matched : isCollecting x ≡ false) where
+        pub opens : x ≡ Open
+        opens = enters-open f x enters matched
+
+        pub same-day : d ≡ openDay r m k b
+        same-day = ap (λ (z : Phase). dayOf r z m k b) opens
+
+        pub accepts : {e : Order} → e ≡ entryWith (b .codes) p t → Accepts r (row r (t .security)) b e f m k
+        accepts entry = record {
+          row = ap (λ (o : Order). row r (o .security)) entry;
+          standing = subst Standing same-day standing;
+          participant = p;
+          member = t;
+          entry = entry;
+          asked = ap (λ (z : Day). orderNo z p t f) (sym same-day) ∙ none;
+        }
+
+    -- a whole-or-nothing order enters only while open
+    pub whole-matched : f ≡ FillOrKill → orderNo d p t f ≡ 0 → isCollecting x ≡ false
+    whole-matched e none = open-matched x (subst (λ (z : TimeInForce). entersIn z x ≡ true) e (enters none))

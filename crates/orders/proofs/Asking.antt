@@ -53,7 +53,7 @@ module _ (r : Rules) (x : Phase) (money pieces : List ℕ) (b : OrderBook) (p : 
 
   -- those from 4 to 14
   asked-in-parts : firstNo (entryQuestions d p m k)
-      ≡ firstNo (earlyQuestions (r .participants) (r .securities) x p m
+      ≡ firstNo (earlyQuestions (r .participants) (r .securities) x p m k
       ++ laterQuestions (row r (m .security)) (turnoverAt (b .turnover) (m .security)) (b .count) (b .codes) p m k money pieces)
   asked-in-parts = rw (room-is k, covered-is d (row r (m .security)) (entryWith (b .codes) p m) refl)
 
@@ -69,18 +69,18 @@ module _ (r : Rules) (x : Phase) (money pieces : List ℕ) (b : OrderBook) (p : 
   whole-last = rw (fillable-is k)
 
 -- the first "no" of 4 to 14, where so many codes are given
-module _ (r : Rules) (x : Phase) (codes p : ℕ) (m : Ticket) where
+module _ (r : Rules) (x : Phase) (codes p : ℕ) (m : Ticket) (k : TimeInForce) where
   abbrev early : List Question
-  early = earlyQuestions (r .participants) (r .securities) x p m
+  early = earlyQuestions (r .participants) (r .securities) x p m k
 
-  abbrev later : List Turnover → (count codes : ℕ) → List ℕ → List ℕ → TimeInForce → List Question
-  later t count codes money pieces k =
+  abbrev later : List Turnover → (count codes : ℕ) → List ℕ → List ℕ → List Question
+  later t count codes money pieces =
       laterQuestions (row r (m .security)) (turnoverAt t (m .security)) count codes p m k money pieces
 
-  pub no-early : (t : List Turnover) (count : ℕ) (money pieces : List ℕ) (k : TimeInForce) (n : ℕ) → 0 < n → n ≡ firstNo early
+  pub no-early : (t : List Turnover) (count : ℕ) (money pieces : List ℕ) (n : ℕ) → 0 < n → n ≡ firstNo early
       → EntryNo r x t count codes money pieces p m k n
-  no-early t count money pieces k n h e = λ b turnover counted given.
-      let rest = later (b .turnover) (b .count) (b .codes) money pieces k in
+  no-early t count money pieces n h e = λ b turnover counted given.
+      let rest = later (b .turnover) (b .count) (b .codes) money pieces in
       e ∙ sym (asked-in-parts r x money pieces b p m k ∙ hides early rest (omega arith))
 
   -- 4 to 7 are answered "yes"
@@ -110,12 +110,12 @@ module _ (r : Rules) (x : Phase) (codes p : ℕ) (m : Ticket) where
           top = within-high 1 maxLots (m .lots) (yeses .1 .1 .1 .0);
         }
 
-    pub no-later : (t : List Turnover) (count : ℕ) (money pieces : List ℕ) (k : TimeInForce) (n : ℕ)
-        → n ≡ firstNo (later t count codes money pieces k) → EntryNo r x t count codes money pieces p m k n
-    no-later t count money pieces k n e = λ b turnover counted given.
-        let rest = later (b .turnover) (b .count) (b .codes) money pieces k in
+    pub no-later : (t : List Turnover) (count : ℕ) (money pieces : List ℕ) (n : ℕ)
+        → n ≡ firstNo (later t count codes money pieces) → EntryNo r x t count codes money pieces p m k n
+    no-later t count money pieces n e = λ b turnover counted given.
+        let rest = later (b .turnover) (b .count) (b .codes) money pieces in
         e
-        ∙ ap (λ (z : List Turnover). firstNo (later z count codes money pieces k)) (sym turnover)
-        ∙ ap (λ (z : ℕ). firstNo (later (b .turnover) z codes money pieces k)) (sym counted)
-        ∙ ap (λ (z : ℕ). firstNo (later (b .turnover) (b .count) z money pieces k)) (sym given)
+        ∙ ap (λ (z : List Turnover). firstNo (later z count codes money pieces)) (sym turnover)
+        ∙ ap (λ (z : ℕ). firstNo (later (b .turnover) z codes money pieces)) (sym counted)
+        ∙ ap (λ (z : ℕ). firstNo (later (b .turnover) (b .count) z money pieces)) (sym given)
         ∙ sym (asked-in-parts r x money pieces b p m k ∙ passes early rest yeses)

@@ -16,18 +16,21 @@ use Rattle.market.specs.declared.TimeInForce.{TimeInForce}
 use Rattle.market.specs.Limits.{lentAtLeast, maxSecurities}
 use Rattle.market.specs.Day.{Day, row}
 use Rattle.market.specs.View.{dayOf}
+use Rattle.market.specs.Sound.{isCollecting}
 use Rattle.market.specs.TradeList.{written}
 use Rattle.market.specs.Answers.{Result}
 use Rattle.market.specs.Calls.{Call, order}
 use Rattle.market.specs.Questions.{Question, entryQuestions, firstNo, questions}
-use Rattle.market.specs.Entry.{entered}
+use Rattle.market.specs.Entry.{entered, placed, taken}
 use Rattle.market.specs.Step.{effect}
 use Rattle.market.specs.Parts.{Carries, Ready}
+use Rattle.market.proofs.Entry.{taken-matched, taken-waits}
 use Rattle.market.proofs.Parts.{carries-accept, carries-refuse}
 use Rattle.invariant.specs.Standing.{Standing}
 use Rattle.invariant.proofs.Sound.{ready-standing}
 use Rattle.matching.specs.Filling.{openDay}
 use Rattle.matching.specs.Orders.{FewLots, waitingIn}
+use Rattle.waiting.specs.Appending.{Admits, Appendable, Appends}
 use Rattle.orders.specs.Entering.{Accepts, Enterable, Enters, Known, entryWith, fillableIn, orderNo}
 use Rattle.orders.proofs.Answered as answered
 
@@ -84,26 +87,52 @@ module _ (r : Rules) (x : Phase) (m k : List ℕ) (b : OrderBook) (ready : Ready
           pub in-table : t .security < maxSecurities
           in-table = answered.in-table r x m k b standing p t f clear
 
-          accepts : Accepts r (row r (t .security)) b e f m k
-          accepts = answered.accepts r x m k b standing p t f clear entry
-
-          pub enterable : Enterable (row r (t .security)) b e f m k v
-          enterable = record { rules = r; accepts = accepts; lent = omega (arith, lent, few-lots .room) }
-
-          effect-is : effect d call ≡ entered (openDay r m k b) e f
-          unfolding effect
-          effect-is =
-              ap (λ (z : Order). entered d z f) (sym entry)
-              ∙ ap (λ (z : Day). entered z e f) (answered.same-day r x m k b standing p t f clear)
-
-          pub order-enters : (m′ k′ v′ : List ℕ) (b′ : OrderBook)
-              → Enters (row r (t .security)) b e f m k v m′ k′ v′ b′
-              → Carries r x m k b v call m′ k′ v′
+          -- the order is registered with what the book has last
+          abbrev registers : (m′ k′ v′ : List ℕ) → OrderBook → Type 0
+          registers m′ k′ v′ b′ =
+              Carries r x m k b v call m′ k′ v′
               (record { answer = Done (b′ .codes) (b′ .filled) (b′ .left) (b′ .trades); phase = x; book = b′ })
-          order-enters m′ k′ v′ b′ enters =
-              let y = enters r accepts in
-              let phase = answered.opens r x m k b standing p t f clear in
-              carries-accept r x m k b v call (ready .sound) m′ k′ v′ _ (from-four ∙ clear)
-              (y .answer ∙ sym (ap (λ (z : Result). z .answer) effect-is))
-              (ap (λ (z : Phase). dayOf r z m′ k′ b′) phase ∙ y .day ∙ sym (ap (λ (z : Result). z .day) effect-is))
-              (y .list ∙ sym (ap (λ (z : Result). written (z .trades) v) effect-is))
+
+          -- while collecting it only waits
+          module _ (collects : isCollecting x ≡ true) where
+            waits : Admits r x (row r (t .security)) b e m k
+            waits = answered.waits r x m k b standing p t f clear collects entry
+
+            pub appendable : Appendable (row r (t .security)) b e m k
+            appendable = record { rules = r; phase = x; admits = waits }
+
+            pub order-waits : (m′ k′ : List ℕ) (b′ : OrderBook) → Appends (row r (t .security)) b e m k m′ k′ b′
+                → registers m′ k′ v b′
+            unfolding effect placed
+            order-waits m′ k′ b′ appends =
+                let y = appends r x waits in
+                let same : effect d call ≡ placed d e =
+                ap (λ (z : Order). taken d z f) (sym entry) ∙ taken-waits d e f collects in
+                carries-accept r x m k b v call (ready .sound) m′ k′ v _ (from-four ∙ clear)
+                (y .answer ∙ sym (ap (λ (z : Result). z .answer) same))
+                (y .day ∙ sym (ap (λ (z : Result). z .day) same))
+                (sym (ap (λ (z : Result). written (z .trades) v) same))
+
+          -- otherwise it is matched
+          module _ (matched : isCollecting x ≡ false) where
+            accepts : Accepts r (row r (t .security)) b e f m k
+            accepts = answered.accepts r x m k b standing p t f clear matched entry
+
+            pub enterable : Enterable (row r (t .security)) b e f m k v
+            enterable = record { rules = r; accepts = accepts; lent = omega (arith, lent, few-lots .room) }
+
+            effect-is : effect d call ≡ entered (openDay r m k b) e f
+            unfolding effect
+            effect-is =
+                ap (λ (z : Order). taken d z f) (sym entry) ∙ taken-matched d e f matched
+                ∙ ap (λ (z : Day). entered z e f) (answered.same-day r x m k b standing p t f clear matched)
+
+            pub order-enters : (m′ k′ v′ : List ℕ) (b′ : OrderBook)
+                → Enters (row r (t .security)) b e f m k v m′ k′ v′ b′ → registers m′ k′ v′ b′
+            order-enters m′ k′ v′ b′ enters =
+                let y = enters r accepts in
+                let phase = answered.opens r x m k b standing p t f clear matched in
+                carries-accept r x m k b v call (ready .sound) m′ k′ v′ _ (from-four ∙ clear)
+                (y .answer ∙ sym (ap (λ (z : Result). z .answer) effect-is))
+                (ap (λ (z : Phase). dayOf r z m′ k′ b′) phase ∙ y .day ∙ sym (ap (λ (z : Result). z .day) effect-is))
+                (y .list ∙ sym (ap (λ (z : Result). written (z .trades) v) effect-is))

@@ -19,12 +19,12 @@ use Rattle.market.specs.Tests.{_<?_, _≤?_, known}
 use Rattle.market.specs.declared.Rules.{Rules}
 use Rattle.market.specs.Day.{Day, row}
 use Rattle.market.specs.View.{dayOf}
-use Rattle.market.specs.Sound.{isOpen, lotsSound, priceSound}
+use Rattle.market.specs.Sound.{lotsSound, priceSound}
 use Rattle.market.specs.TradeList.{written}
 use Rattle.market.specs.Answers.{Result}
 use Rattle.market.specs.Calls.{entryOf}
 use Rattle.market.specs.Matching.{fitting}
-use Rattle.market.specs.Questions.{Question, ask, entryQuestions, firstNo, orderQuestions}
+use Rattle.market.specs.Questions.{Question, ask, entersIn, entryQuestions, firstNo, orderQuestions}
 use Rattle.market.specs.Entry.{entered}
 use Rattle.market.proofs.Known.{RulesOk}
 use Rattle.invariant.specs.Standing.{Standing}
@@ -58,11 +58,11 @@ fillableIn ImmediateOrCancel w e = true
 fillableIn FillOrKill w e = e .lots ≤? fitting e w
 
 -- the questions that ask for no row of the table
-abbrev pub earlyQuestions : ℕ → ℕ → Phase → ℕ → Ticket → List Question
-earlyQuestions participants securities x p m =
+abbrev pub earlyQuestions : ℕ → ℕ → Phase → ℕ → Ticket → TimeInForce → List Question
+earlyQuestions participants securities x p m k =
     ask 4 (known p participants) ∷
     ask 5 (known (m .security) securities) ∷
-    ask 6 (isOpen x) ∷
+    ask 6 (entersIn k x) ∷
     ask 7 (lotsSound (m .lots)) ∷ []
 
 -- those that read row and turnover of the order's security, its participant's positions, and counts

@@ -18,10 +18,14 @@ use market::Ticket;
 use market::TimeInForce;
 use market::Turnover;
 use market::declined;
+use market::is_collecting;
 use market::is_open;
+use market::kept_in;
+use market::registered;
 use matching::fill;
 use matching::fitting_lots;
 use matching::with_lots;
+use waiting::append;
 use waiting::block_need;
 use waiting::covers;
 use waiting::free_need;
@@ -32,7 +36,7 @@ ghost use Prim.Native.Nat.{_≤_};
 ghost use Rattle.market.specs.Limits.{maxCodes, maxWaiting};
 ghost use Rattle.market.specs.Waiting.{indexOf};
 ghost use Rattle.market.specs.Calls.{cancel as cancelCall, order as orderCall};
-ghost use Rattle.market.specs.Questions.{firstNo};
+ghost use Rattle.market.specs.Questions.{entersIn, firstNo};
 ghost use Rattle.market.specs.Entry.{leftWaiting};
 ghost use Rattle.market.specs.Parts.{Carries, Ready};
 ghost use Rattle.matching.specs.Orders.{FewLots, waitingIn};
@@ -85,6 +89,17 @@ pub fn is_fillable(book: OrderBook, force: TimeInForce, entry: Order) -> bool
     }
 }
 
+// Question 6 of an order.
+fn enters_in(force: TimeInForce, phase: Phase) -> bool
+    ensures { λ r. ⌜ r ≡ entersIn force phase ⌝ }
+{
+    match force {
+        TimeInForce::Kept => kept_in(phase),
+        TimeInForce::ImmediateOrCancel => is_open(phase),
+        TimeInForce::FillOrKill => is_open(phase),
+    }
+}
+
 // The first "no" of questions 4 to 7, which ask for no row of the table; 0 where there is none.
 fn early_no(
     participants: u64,
@@ -92,8 +107,9 @@ fn early_no(
     phase: Phase,
     participant: u64,
     member: Ticket,
+    force: TimeInForce,
 ) -> u64
-    ensures { λ r. ⌜ r ≡ firstNo (earlyQuestions participants securities phase participant member) ⌝ }
+    ensures { λ r. ⌜ r ≡ firstNo (earlyQuestions participants securities phase participant member force) ⌝ }
 {
     if participants <= participant {
         return 4;
@@ -101,7 +117,7 @@ fn early_no(
     if securities <= member.security {
         return 5;
     }
-    if !is_open(phase) {
+    if !enters_in(force, phase) {
         return 6;
     }
     if !within(1, MAX_LOTS, member.lots) {
@@ -163,6 +179,7 @@ pub fn order_no<'a>(
         phase,
         participant,
         ticket,
+        force,
     );
     if 0 < early {
         return early;
@@ -232,7 +249,7 @@ pub fn enter(
     book
 }
 
-// An order of any of the three kinds.
+// An order of any of the three kinds. While collecting a kept one only waits.
 pub fn order(
     b: OrderBook,
     rules: Rules,
@@ -272,12 +289,12 @@ pub fn order(
     }
     let table = rules.table;
     let row = table[ticket.security as usize];
-    let book = enter(b, entry, force, row, money, pieces, trades);
-    Carried {
-        answer: Answer::Done(book.codes, book.filled, book.left, book.trades),
-        phase,
-        book,
+    if is_collecting(phase) {
+        let placed = append(b, entry, row, money, pieces);
+        return registered(placed, phase);
     }
+    let entered = enter(b, entry, force, row, money, pieces, trades);
+    registered(entered, phase)
 }
 
 fn is_own(participant: u64, code: u64, o: Order) -> bool

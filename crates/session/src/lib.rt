@@ -309,30 +309,6 @@ pub fn closing_no<'a>(
     later_closing_no(money, pieces, row, turnover, count, codes, o)
 }
 
-// A closing order that passed its questions only waits: its need is blocked, its code given. `row` is its security's.
-pub fn append(
-    b: OrderBook,
-    o: Order,
-    row: Security,
-    money: &mut [u64; 512],
-    pieces: &mut [u64; 512],
-) -> OrderBook
-    requires { ⌜ Appendable row b o (now money) (now pieces) ⌝ }
-    ensures { λ r. ⌜ Appends row b o (now (money .entry)) (now (pieces .entry)) (now (money .exit)) (now (pieces .exit)) r ⌝ }
-{
-    let mut book = b;
-    let turnover = book.turnover[o.security as usize];
-    block_need(money, pieces, row, turnover, o);
-    let count = book.count;
-    book.orders[count] = o;
-    book.count = count + 1;
-    book.codes = o.code;
-    book.filled = 0;
-    book.left = o.lots;
-    book.trades = 0;
-    book
-}
-
 // All waiting orders come off, and closing orders may enter.
 pub fn start_closing(
     b: OrderBook,

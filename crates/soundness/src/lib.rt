@@ -23,7 +23,7 @@ use market::Side;
 use market::State;
 use market::Turnover;
 use market::is_closing;
-use market::is_open;
+use market::kept_in;
 ghost use mathlib.Core.Path.{_≡_};
 ghost use mathlib.Core.Bool.{true};
 ghost use Prim.Native.Nat.{_+_, _<_, _≤_};
@@ -114,7 +114,7 @@ fn kind_sound(phase: Phase, row: Security, turnover: Turnover, kind: Kind) -> bo
 {
     match kind {
         Kind::Kept(price) => {
-            if !is_open(phase) {
+            if !kept_in(phase) {
                 return false;
             }
             price_sound(row, price)

@@ -1,4 +1,4 @@
-// What several calls do with an order that waits or enters: its need is blocked or freed, and it leaves. Positions are
+// What several calls do with an order that waits or enters: its need is blocked or freed, it comes to wait, and it leaves. Positions are
 // lent, the order book goes by value; `row` and `turnover` are those of the order's security.
 use amounts::cell_of;
 use amounts::need_of;
@@ -12,6 +12,7 @@ use positions::free_of;
 use positions::release;
 ghost use mathlib.Core.Path.{_≡_};
 ghost use Rattle.market.specs.Positions.{block as blocking, release as releasing};
+ghost use Rattle.waiting.specs.Appending.{Appendable, Appends};
 ghost use Rattle.waiting.specs.Leaving.{Leavable, Leaves};
 ghost use Rattle.waiting.specs.Claims.{Blockable, Freeable, Reckonable, coveredBy, moneyWith, piecesWith};
 
@@ -99,5 +100,29 @@ pub fn leave(
         i += 1;
     }
     book.count = last;
+    book
+}
+
+// An order that passed its questions and only waits: its need is blocked, its code given. `row` is that of its security.
+pub fn append(
+    b: OrderBook,
+    o: Order,
+    row: Security,
+    money: &mut [u64; 512],
+    pieces: &mut [u64; 512],
+) -> OrderBook
+    requires { ⌜ Appendable row b o (now money) (now pieces) ⌝ }
+    ensures { λ r. ⌜ Appends row b o (now (money .entry)) (now (pieces .entry)) (now (money .exit)) (now (pieces .exit)) r ⌝ }
+{
+    let mut book = b;
+    let turnover = book.turnover[o.security as usize];
+    block_need(money, pieces, row, turnover, o);
+    let count = book.count;
+    book.orders[count] = o;
+    book.count = count + 1;
+    book.codes = o.code;
+    book.filled = 0;
+    book.left = o.lots;
+    book.trades = 0;
     book
 }

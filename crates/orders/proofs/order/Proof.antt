@@ -1,13 +1,14 @@
--- `orders::order` meets its contract: question 2, those from 4 to 14, question 15, then the entry.
+-- `orders::order` meets its contract: question 2, those from 4 to 14, question 15, then the order waits while collecting, or
+-- enters.
 use Prim.Native.Nat.{_<_}
 use native.Mathlib.Omega.{arith}
-use mathlib.Core.Path.{_≡_, refl}
+use mathlib.Core.Path.{_≡_, refl, sym, _∙_}
 use Rattle.market.specs.Limits.{maxSecurities}
 use Rattle.market.specs.View.{dayOf}
 use Rattle.market.specs.Questions.{entryQuestions, firstNo}
 use Rattle.amounts.proofs.Answers.{fails, holds}
-use Rattle.orders.proofs.Calling.{enterable, few-lots, in-table, order-enters, refuse-first, refuse-short}
-use Rattle.orders.proofs.Calling.{refuse-whole, rules-known}
+use Rattle.orders.proofs.Calling.{appendable, enterable, few-lots, in-table, order-enters, order-waits, refuse-first}
+use Rattle.orders.proofs.Calling.{refuse-short, refuse-whole, rules-known}
 use borrow.Author.Needs.{needs}
 use Rattle.orders.proofs.order.Statement.{statement}
 use Rattle.orders.proofs.order.Tie as tie
@@ -106,30 +107,73 @@ mul-row c = omega (arith, listed (c .before))
 array-copy-out-row : tie.Need-array-copy-out-row
 array-copy-out-row c = listed (c .before)
 
+is-collecting-requires : tie.Need-is-collecting-requires
+is-collecting-requires c κs = search needs
+
+-- where the phase is asked, behind the row
+abbrev whole : tie.After-is-collecting → tie.Else3
+whole c = c .before .before .before
+
+append-requires : tie.Need-append-requires
+append-requires c κs =
+    let t = c .before .before in
+    let w = whole (t .before) in
+    let f = w .before in
+    let k = asked w in
+    let b = start (k .before) in
+    let a = b .args in
+    appendable (a .rules) (a .phase) (a .money .now) (a .pieces .now) (a .b) (b .pre) (a .participant) (a .ticket) (a .force)
+    (a .trades .now) ((lent (k .before)) .if1 .left) (none k) (f .before .entry-of .ensures) (holds (f .is-fillable .ensures) (w .if3 .left))
+    (sym (t .before .is-collecting .ensures) ∙ t .if4 .taken)
+
+registered-requires : tie.Need-registered-requires
+registered-requires c κs = search needs
+
+returns-4 : tie.Need-returns-4
+returns-4 c =
+    let n = c .before in
+    let t = n .before .before .before in
+    let w = whole (t .before) in
+    let f = w .before in
+    let k = asked w in
+    let b = start (k .before) in
+    let a = b .args in
+    rw (c .registered .ensures)
+    (order-waits (a .rules) (a .phase) (a .money .now) (a .pieces .now) (a .b) (b .pre) (a .participant) (a .ticket) (a .force)
+    (a .trades .now) ((lent (k .before)) .if1 .left) (none k) (f .before .entry-of .ensures) (holds (f .is-fillable .ensures) (w .if3 .left))
+    (sym (t .before .is-collecting .ensures) ∙ t .if4 .taken) _ _ (n .append .result) (n .append .ensures))
+
 enter-requires : tie.Need-enter-requires
 enter-requires c κs =
-    let w = c .before .before .before .before .before in
+    let t = c .before .before .before in
+    let w = whole (t .before) in
     let f = w .before in
     let k = asked w in
     let b = start (k .before) in
     let a = b .args in
     enterable (a .rules) (a .phase) (a .money .now) (a .pieces .now) (a .b) (b .pre) (a .participant) (a .ticket) (a .force)
     (a .trades .now) ((lent (k .before)) .if1 .left) (none k) (f .before .entry-of .ensures) (holds (f .is-fillable .ensures) (w .if3 .left))
+    (sym (t .before .is-collecting .ensures) ∙ t .if4 .left)
+
+registered-requires-2 : tie.Need-registered-requires-2
+registered-requires-2 c κs = search needs
 
 same-length : tie.Need-same-length
 same-length c = search needs
 
-returns-4 : tie.Need-returns-4
-returns-4 c =
-    let n = c .before .before in
-    let w = n .before .before .before .before .before .before in
+returns-5 : tie.Need-returns-5
+returns-5 c =
+    let n = c .before .before .before in
+    let t = n .before .before .before .before in
+    let w = whole (t .before) in
     let f = w .before in
     let k = asked w in
     let b = start (k .before) in
     let a = b .args in
-    order-enters (a .rules) (a .phase) (a .money .now) (a .pieces .now) (a .b) (b .pre) (a .participant) (a .ticket) (a .force)
+    rw (c .registered2 .ensures)
+    (order-enters (a .rules) (a .phase) (a .money .now) (a .pieces .now) (a .b) (b .pre) (a .participant) (a .ticket) (a .force)
     (a .trades .now) ((lent (k .before)) .if1 .left) (none k) (f .before .entry-of .ensures) (holds (f .is-fillable .ensures) (w .if3 .left))
-    _ _ _ (n .enter .result) (n .enter .ensures)
+    (sym (t .before .is-collecting .ensures) ∙ t .if4 .left) _ _ _ (n .enter .result) (n .enter .ensures))
 
 pub order-spec : {M : Type 1} → statement M
 order-spec =
@@ -146,6 +190,11 @@ order-spec =
     returns-3
     mul-row
     array-copy-out-row
+    is-collecting-requires
+    append-requires
+    registered-requires
+    returns-4
     enter-requires
+    registered-requires-2
     same-length
-    returns-4)
+    returns-5)

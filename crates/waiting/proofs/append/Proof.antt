@@ -1,11 +1,11 @@
--- `session::append` meets its contract: the need is blocked and the order waits, under all rules that have its row.
+-- `waiting::append` meets its contract: the need is blocked and the order waits, under all rules that have its row.
 use Prim.Native.Nat.{_<_}
 use native.Mathlib.Omega.{arith}
 use Rattle.market.specs.Limits.{maxWaiting}
 use Rattle.market.proofs.Sized.{sized-book}
-use Rattle.session.proofs.Appending.{append-blocks, append-done, append-room, append-security}
-use Rattle.session.proofs.append.Statement.{statement}
-use Rattle.session.proofs.append.Tie as tie
+use Rattle.waiting.proofs.Appending.{append-blocks, append-done, append-room, append-security}
+use Rattle.waiting.proofs.append.Statement.{statement}
+use Rattle.waiting.proofs.append.Tie as tie
 
 mul-turnover : tie.Need-mul-turnover
 mul-turnover c = omega (arith, append-security (c .pre .admits))
@@ -32,7 +32,7 @@ add-book : tie.Need-add-book
 add-book c = omega (arith, room c)
 
 returns : tie.Need-returns
-returns c = λ r a.
+returns c = λ r x a.
     let b = start c in
     append-done a (omega (arith, room c, (sized-book (b .args .b) (b .good .0)) .orders)) (c .block-need .ensures .0)
     (c .block-need .ensures .1)

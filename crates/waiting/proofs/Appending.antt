@@ -1,0 +1,68 @@
+-- An order that only waits, step by step on the parts of the day.
+use Prim.Native.Nat.{ℕ, _+_, _<_}
+use native.Mathlib.Omega.{arith}
+use mathlib.Core.Path.{_≡_, refl, ap, _∙_}
+use mathlib.Core.List.{List, [], _∷_, _++_}
+use lib.ListN.{length, set}
+use borrow.Author.Tests.{ltb-true}
+use Rattle.market.specs.declared.Order.{Order}
+use Rattle.market.specs.declared.OrderBook.{OrderBook}
+use Rattle.market.specs.declared.Phase.{Phase}
+use Rattle.market.specs.declared.Rules.{Rules}
+use Rattle.market.specs.declared.Security.{Security}
+use Rattle.market.specs.Limits.{maxSecurities, maxWaiting}
+use Rattle.market.specs.Day.{Day, turnoverAt, withCodes, withWaiting}
+use Rattle.market.specs.View.{dayOf}
+use Rattle.market.specs.Positions.{block, blockFor}
+use Rattle.market.specs.Entry.{admitted, placed}
+use Rattle.market.proofs.View.{first-append, first-length}
+use Rattle.invariant.proofs.Whole.{limit-fits}
+use Rattle.matching.specs.Orders.{waitingIn}
+use Rattle.waiting.specs.Appending.{Admits, AppendedAs}
+use Rattle.waiting.specs.Claims.{Blockable, moneyWith, piecesWith}
+use Rattle.waiting.proofs.Days.{blocks, day-moved}
+
+module _ {r : Rules} {x : Phase} {l : Security} {b : OrderBook} {o : Order} {m k : List ℕ} (a : Admits r x l b o m k) where
+  abbrev d : Day
+  d = dayOf r x m k b
+
+  pub append-security : o .security < maxSecurities
+  append-security = omega (arith, a .placeable .order .security, a .standing .backed .rulesOk .securities)
+
+  pub append-room : b .count < maxWaiting
+  append-room =
+      omega (
+        arith,
+        ltb-true (length (d .waiting)) maxWaiting (a .placeable .room),
+        first-length (b .count) (b .orders),
+      )
+
+  pub append-blocks : Blockable l (turnoverAt (b .turnover) (o .security)) o m k
+  append-blocks =
+      let p = a .placeable in
+      blocks d l o (a .row) [] (a .standing .backed) (p .order .participant) (p .order .security)
+      (limit-fits d (a .standing) o (p .order) (p .kind)) (p .order .top) (p .covers)
+
+  pub append-done : {m′ k′ : List ℕ} → b .count < length (b .orders)
+      → m′ ≡ moneyWith block l (turnoverAt (b .turnover) (o .security)) o m
+      → k′ ≡ piecesWith block l (turnoverAt (b .turnover) (o .security)) o k
+      → AppendedAs (placed d o) r x m′ k′
+      (record {
+        orders = set (b .orders) (b .count) o;
+        count = b .count + 1;
+        codes = o .code;
+        turnover = b .turnover;
+        filled = 0;
+        left = o .lots;
+        trades = 0;
+      })
+  unfolding placed admitted blockFor
+  append-done {m′} {k′} inside em ek = record {
+    answer = refl;
+    day =
+        ap (λ (w : List Order). withWaiting (withCodes (dayOf r x m′ k′ b) (o .code)) w)
+        (first-append (b .count) (b .orders) o inside)
+        ∙ ap (λ (c : ℕ). withWaiting (withCodes (dayOf r x m′ k′ b) c) (waitingIn b ++ (o ∷ []))) (a .placeable .code)
+        ∙ ap (λ (e : Day). withWaiting e (waitingIn b ++ (o ∷ [])))
+        (day-moved (withCodes d (b .codes + 1)) l o (a .row) block m′ k′ em ek);
+  }
