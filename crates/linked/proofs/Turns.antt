@@ -5,6 +5,7 @@ use native.Mathlib.Numerals.{add-one}
 use native.Mathlib.Omega.{arith}
 use mathlib.Core.Path.{_≡_, refl, ap, sym, _∙_, subst}
 use mathlib.Core.List.{List, [], _∷_, _++_, append-nil}
+use mathlib.Core.Bool.{false}
 use lib.ListN.{length, take, drop, getD, drop-of-length-le, length-append, length-drop, length-take}
 use lib.Seq.{drop-cons, getD-take, length-take-le}
 use Rattle.market.specs.declared.Answer.{Answer}
@@ -20,6 +21,7 @@ use Rattle.market.specs.Limits.{lentAtLeast, maxCodes, maxLots, maxMembers, max
 use Rattle.market.specs.Limits.{numbersPerTrade}
 use Rattle.market.specs.Day.{Day, row}
 use Rattle.market.specs.View.{dayOf}
+use Rattle.market.specs.Sound.{isCollecting}
 use Rattle.market.specs.TradeList.{Trade, written}
 use Rattle.market.specs.Answers.{Result, numbersOf}
 use Rattle.market.specs.Calls.{entryOf, linked}
@@ -33,7 +35,7 @@ use Rattle.invariant.proofs.Sound.{ready-standing}
 use Rattle.invariant.proofs.Whole.{whole-few, whole-standing}
 use Rattle.matching.specs.Filling.{openDay}
 use Rattle.orders.specs.Entering.{Accepts, Enterable, EntersAs, entryWith, orderNo}
-use Rattle.orders.proofs.Answered.{accepts, codes-given, few-lots, in-table, opens, same-day}
+use Rattle.orders.proofs.Answered.{accepts, codes-given, few-lots, in-table, opens, same-day, whole-matched}
 use Rattle.linked.specs.Group.{Groupable}
 use Rattle.linked.proofs.Calling.{group-carries}
 use Rattle.linked.proofs.Lent.{lentFrom, put-back, returned, returned-written, written-length}
@@ -177,8 +179,11 @@ module _ {s : From} {m k l : List ℕ} {b : OrderBook} {filled made i : ℕ} (t 
         abbrev e : Order
         e = entryWith (b .codes) (s .owner) q
 
+        matched : isCollecting (s .phase) ≡ false
+        matched = whole-matched (s .rules) (s .phase) m k b (t .stays) (s .owner) q FillOrKill refl asked
+
         accepted : {o : Order} → o ≡ e → Accepts (s .rules) (row (s .rules) (q .security)) b o FillOrKill m k
-        accepted = accepts (s .rules) (s .phase) m k b (t .stays) (s .owner) q FillOrKill asked
+        accepted = accepts (s .rules) (s .phase) m k b (t .stays) (s .owner) q FillOrKill asked matched
 
         -- the list is lent from here on
         module _ (at : ℕ) (here : at ≡ numbersPerTrade * made) where
@@ -199,13 +204,13 @@ module _ {s : From} {m k l : List ℕ} {b : OrderBook} {filled made i : ℕ} (t 
               → EntersAs (entered (openDay r m k b) o FillOrKill) r (lentFrom l at) m1 k1 part b1) where
             done : EntersAs result (s .rules) (lentFrom l at) m1 k1 part b1
             done =
-                let same = same-day (s .rules) (s .phase) m k b (t .stays) (s .owner) q FillOrKill asked in
+                let same = same-day (s .rules) (s .phase) m k b (t .stays) (s .owner) q FillOrKill asked matched in
                 subst (λ (x : Day). EntersAs (entered x e FillOrKill) (s .rules) (lentFrom l at) m1 k1 part b1) (sym same)
                 (rw (← eo) (enters (s .rules) (accepted eo)))
 
             day-is : dayAt s m1 k1 b1 ≡ result .day
             day-is =
-                let phase = opens (s .rules) (s .phase) m k b (t .stays) (s .owner) q FillOrKill asked in
+                let phase = opens (s .rules) (s .phase) m k b (t .stays) (s .owner) q FillOrKill asked matched in
                 ap (λ (x : Phase). dayOf (s .rules) x m1 k1 b1) phase ∙ done .day
 
             lots-is : b1 .filled ≡ (numbersOf (result .answer)) .filled

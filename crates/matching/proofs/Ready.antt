@@ -9,6 +9,7 @@ use lib.ListN.{length, set}
 use borrow.Author.Tests.{leb-true}
 use Rattle.market.specs.declared.Order.{Order}
 use Rattle.market.specs.declared.OrderBook.{OrderBook}
+use Rattle.market.specs.declared.Phase.{Phase}
 use Rattle.market.specs.declared.Security.{Security}
 use Rattle.market.specs.declared.Side.{Side}
 use Rattle.market.specs.declared.Side.the-variants.{Buy, Sell}
@@ -17,26 +18,36 @@ use Rattle.market.specs.Limits.{maxCodes, maxLot, maxLots, maxPieces, moneyLimi
 use Rattle.market.specs.declared.Rules.{Rules}
 use Rattle.market.specs.Day.{Asset, Day, Money, Pieces, currencyOf, row, noOrder, orderAt, cell, turnoverAt}
 use Rattle.market.specs.Day.{withMoney, withPieces}
+use Rattle.market.specs.View.{dayOf}
 use Rattle.market.specs.Needs.{assetOf, columnOf, limitOf, need, needAt, piecesOf, cellFor, sumFor}
 use Rattle.market.specs.Positions.{change, counted, counting, fall, moneySettled, pay, piecesSettled, receive, settle}
 use Rattle.market.specs.Waiting.{takeOff}
 use Rattle.market.specs.TradeList.{tradeOf}
 use Rattle.market.specs.Matching.{buyOf, found, ifBuy, opposite, reaches, sellOf, traded}
 use Rattle.market.proofs.Logic.{never}
-use Rattle.market.proofs.Lists.{sum-remove}
+use Rattle.market.proofs.View.{first-length}
+use Rattle.market.proofs.Lists.{all-map, sum-remove}
 use Rattle.market.proofs.Amounts.{only-same}
 use Rattle.market.proofs.Needs.{fall-pays, fall-sells, need-own, pieces-split, sum-bounds}
 use Rattle.market.proofs.Known.{OrderOk}
 use Rattle.market.proofs.Matching.{Chosen}
 use Rattle.positions.specs.Payable.{Payable}
-use Rattle.invariant.specs.Standing.{Backed, Held, needsOf}
+use Rattle.invariant.specs.Standing.{Backed, Held, Standing, needsOf}
 use Rattle.invariant.proofs.Held.{held-cell, held-within}
 use Rattle.invariant.proofs.Flight.{buyer-pays, fitting, okE, okO, range}
 use Rattle.matching.specs.Execution.{Countable, Executable, Executes, Settles, moneyAfter}
 use Rattle.matching.specs.Execution.{piecesAfter}
 use Rattle.matching.specs.Filling.{Flies, openDay}
-use Rattle.matching.specs.Orders.{waitingIn}
+use Rattle.matching.specs.Orders.{FewLots, waitingIn}
 use Rattle.matching.specs.Written.{tradeAs}
+
+-- the lots of a sound day's orders can be added up
+pub few-waiting : (r : Rules) (x : Phase) (m k : List ℕ) (b : OrderBook) → Standing (dayOf r x m k b)
+    → FewLots (b .count) (waitingIn b)
+few-waiting r x m k b st = record {
+  room = omega (arith, st .room, first-length (b .count) (b .orders));
+  lots = all-map (OrderOk r) (λ o. o .lots ≤ maxLots) (waitingIn b) (λ o ok. ok .top) (st .orders);
+}
 
 -- what is needed is blocked, so it can be paid, in money as in pieces
 payable : {r : Rules} {n limit : ℕ} {m : List ℕ} {needs : ℕ → ℕ}

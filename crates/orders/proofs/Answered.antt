@@ -13,20 +13,18 @@ use Rattle.market.specs.declared.Phase.the-variants.{Open}
 use Rattle.market.specs.declared.Rules.{Rules}
 use Rattle.market.specs.declared.TimeInForce.{TimeInForce}
 use Rattle.market.specs.declared.TimeInForce.the-variants.{FillOrKill}
-use Rattle.market.specs.Limits.{maxCodes, maxLots, maxSecurities}
+use Rattle.market.specs.Limits.{maxCodes, maxSecurities}
 use Rattle.market.specs.Day.{Day, row}
 use Rattle.market.specs.View.{dayOf}
 use Rattle.market.specs.Sound.{isCollecting}
 use Rattle.market.specs.Questions.{Question, ask, entersIn, entryQuestions, firstNo, orderQuestions}
-use Rattle.market.proofs.Lists.{all-map}
 use Rattle.market.proofs.Questions.{AllYes, all-yes, hides, passes, yes}
-use Rattle.market.proofs.Known.{OrderOk}
 use Rattle.market.proofs.Entry.{enters-kept, enters-open, open-matched}
-use Rattle.market.proofs.View.{first-length}
 use Rattle.invariant.specs.Standing.{Standing}
 use Rattle.invariant.proofs.Placed.{kept-placeable}
 use Rattle.matching.specs.Filling.{openDay}
 use Rattle.matching.specs.Orders.{FewLots, waitingIn}
+use Rattle.matching.proofs.Ready.{few-waiting}
 use Rattle.waiting.specs.Appending.{Admits}
 use Rattle.orders.specs.Entering.{Accepts, Known, entryWith, fillableIn, orderNo}
 use Rattle.orders.proofs.Asking.{whole-last}
@@ -42,10 +40,7 @@ module _ (r : Rules) (x : Phase) (m k : List ℕ) (b : OrderBook) (standing : St
   rules-known = record { rules = standing .backed .rulesOk; codes = codes-given }
 
   pub few-lots : FewLots (b .count) (waitingIn b)
-  few-lots = record {
-    room = omega (arith, standing .room, first-length (b .count) (b .orders));
-    lots = all-map (OrderOk r) (λ o. o .lots ≤ maxLots) (waitingIn b) (λ o ok. ok .top) (standing .orders);
-  }
+  few-lots = few-waiting r x m k b standing
 
   -- an order
   module _ (p : ℕ) (t : Ticket) (f : TimeInForce) where

@@ -1,14 +1,13 @@
 -- The questions of a closing order in the parts in which code asks them, and the call, on the parts of a sound day.
 use Prim.Native.Nat.{ℕ, _≤_, _<_}
 use native.Mathlib.Omega.{arith}
-use mathlib.Core.Path.{_≡_, refl, ap, sym, _∙_, subst}
+use mathlib.Core.Path.{_≡_, refl, ap, sym, subst, _∙_}
 use mathlib.Core.List.{List, [], _++_}
 use borrow.Author.Tests.{leb-true, ltb-true}
 use Rattle.market.specs.declared.Answer.the-variants.{Done, Refused}
 use Rattle.market.specs.declared.Order.{Order}
 use Rattle.market.specs.declared.OrderBook.{OrderBook}
 use Rattle.market.specs.declared.Phase.{Phase}
-use Rattle.market.specs.declared.Phase.the-variants.{Closing}
 use Rattle.market.specs.declared.Rules.{Rules}
 use Rattle.market.specs.declared.Side.{Side}
 use Rattle.market.specs.declared.Turnover.{Turnover}
@@ -21,17 +20,18 @@ use Rattle.market.specs.Entry.{placed}
 use Rattle.market.specs.Step.{effect}
 use Rattle.market.specs.Parts.{Carries, Ready}
 use Rattle.market.proofs.Logic.{within-high}
-use Rattle.market.proofs.Known.{closing-phase}
 use Rattle.market.proofs.Questions.{AllYes, all-yes, hides, passes, yes}
 use Rattle.market.proofs.Parts.{carries-accept, carries-refuse}
 use Rattle.market.proofs.Turnovers.{closing-bounds}
 use Rattle.market.proofs.View.{first-length}
 use Rattle.invariant.specs.Standing.{Standing}
+use Rattle.invariant.proofs.Placed.{closing-placeable}
 use Rattle.invariant.proofs.Sound.{ready-standing}
+use Rattle.waiting.specs.Appending.{Admits, AppendedAs, Appendable, Appends}
 use Rattle.waiting.specs.Claims.{Reckonable}
 use Rattle.waiting.proofs.Days.{covered-is}
-use Rattle.session.specs.Appending.{Admits, AppendedAs, Appendable, Appends, Askable, ClosingNo}
-use Rattle.session.specs.Appending.{closingWith, earlyClosing, laterClosing}
+use Rattle.session.specs.Asking.{Askable, ClosingNo}
+use Rattle.session.specs.Asking.{closingWith, earlyClosing, laterClosing}
 
 -- the questions of a closing order, of a day of these parts
 asked-in-parts : (r : Rules) (x : Phase) (m k : List ℕ) (b : OrderBook) (p : ℕ) (side : Side) (s n : ℕ)
@@ -129,36 +129,17 @@ module _ (r : Rules) (x : Phase) (m k : List ℕ) (b : OrderBook) (ready : Ready
       in-table =
           omega (arith, ltb-true s (r .securities) (yes 5 asked yeses-all), standing .backed .rulesOk .securities)
 
-      closes : x ≡ Closing
-      unfolding closingQuestions
-      closes = closing-phase x (yes 6 asked yeses-all)
-
       module _ {o : Order} (entry : o ≡ closingWith (b .codes) p side s n) where
-        admits : Admits r (row r s) b o m k
-        admits =
-            rw entry
-            (record {
-              row = refl;
-              standing = subst (λ (z : Phase). Standing (dayOf r z m k b)) closes standing;
-              participant = p;
-              side = side;
-              security = s;
-              lots = n;
-              entry = refl;
-              asked = subst (λ (z : Phase). firstNo (closingQuestions (dayOf r z m k b) p side s n) ≡ 0) closes none;
-            })
+        admits : Admits r x (row r s) b o m k
+        admits = rw entry (record { row = refl; standing = standing; placeable = closing-placeable d p side s n none })
 
         pub appendable : Appendable (row r s) b o m k
-        appendable = record { rules = r; admits = admits }
+        appendable = record { rules = r; phase = x; admits = admits }
 
         pub appended : {m′ k′ : List ℕ} (b′ : OrderBook) → Appends (row r s) b o m k m′ k′ b′
             → Carries r x m k b [] call m′ k′ []
             (record { answer = Done (b′ .codes) (b′ .filled) (b′ .left) (b′ .trades); phase = x; book = b′ })
         unfolding questions effect placed
         appended {m′} {k′} b′ done =
-            let e = closingWith (b .codes) p side s n in
-            let z : AppendedAs (placed (dayOf r Closing m k b) e) r m′ k′ b′ =
-            subst (λ (w : Order). AppendedAs (placed (dayOf r Closing m k b) w) r m′ k′ b′) entry (done r admits) in
-            let same : dayOf r x m′ k′ b′ ≡ (placed d e) .day =
-            subst (λ (q : Phase). dayOf r q m′ k′ b′ ≡ (placed (dayOf r q m k b) e) .day) (sym closes) (z .day) in
-            carries-accept r x m k b [] call (ready .sound) m′ k′ [] _ none (z .answer) same refl
+            let y = subst (λ (w : Order). AppendedAs (placed d w) r x m′ k′ b′) entry (done r x admits) in
+            carries-accept r x m k b [] call (ready .sound) m′ k′ [] _ none (y .answer) (y .day) refl

@@ -1,4 +1,4 @@
--- What holds between two securities of the closing session: from here the definition comes to the same as from the start.
+-- What holds between two securities at the end of a session: from here the definition comes to the same as from the start.
 use Prim.Native.Nat.{ℕ, suc, _+_, _*_, _-_, _≤_, _<_}
 use native.Mathlib.Nat.{zero-add}
 use native.Mathlib.Numerals.{add-one}
@@ -6,25 +6,28 @@ use native.Mathlib.Omega.{arith}
 use mathlib.Core.Path.{_≡_, refl, ap, sym, _∙_, subst}
 use mathlib.Core.List.{List, [], _∷_, _++_}
 use lib.ListN.{length, length-append, take-append-drop}
-use Rattle.market.specs.declared.Kind.the-variants as kind
 use Rattle.market.specs.declared.OrderBook.{OrderBook}
-use Rattle.market.specs.declared.Phase.the-variants.{Closed, Closing}
+use Rattle.market.specs.declared.Phase.{Phase}
 use Rattle.market.specs.declared.Security.{Security}
 use Rattle.market.specs.Limits.{maxWaiting, numbersPerTrade}
 use Rattle.market.specs.declared.Rules.{Rules}
-use Rattle.market.specs.Day.{Day, row, turnoverAt}
+use Rattle.market.specs.Day.{Day, row}
 use Rattle.market.specs.View.{dayOf}
-use Rattle.market.specs.Needs.{closingPrice}
 use Rattle.market.specs.Waiting.{allLeave}
 use Rattle.market.specs.TradeList.{Trade, lotsOf}
-use Rattle.market.specs.Closing.{Paired, Terms, closingTerms, endResult, followed, pairs, pairsFrom}
+use Rattle.market.specs.Pairing.{Paired, Terms, endResult, followed, pairs, pairsFrom}
+use Rattle.market.specs.Closing.{closingTerms}
+use Rattle.market.specs.Auction.{auctionTerms}
 use Rattle.market.proofs.Lists.{sum-append}
 use Rattle.invariant.specs.Standing.{Standing}
-use Rattle.invariant.proofs.Pairing.{Fair, closing-fair}
+use Rattle.invariant.proofs.Pairing.{Fair, auction-fair, closing-fair}
 use Rattle.matching.specs.Written.{tradeWritten}
 use Rattle.matching.proofs.Writing.{written-length, written-next, writtenFrom}
-use Rattle.session.specs.Leaving.{AllLeft, emptied}
-use Rattle.session.specs.Pairing.{Closes, Counts, EndsAs, Meets, PairedAs, cleared, closingFrom}
+use Rattle.pairing.specs.Leaving.{AllLeft, emptied}
+use Rattle.pairing.specs.Pairing.{Counts, Meets, PairedAs}
+use Rattle.session.specs.declared.Session.{Session}
+use Rattle.session.specs.declared.Session.the-variants.{Auction, Closing}
+use Rattle.session.specs.Ending.{EndsAs, Stands, cleared, nextPhase, pairedFrom, phaseOf, termsOf, termsWith}
 
 -- one list of trades written after another
 written-append : (ts us : List Trade) (n : ℕ) (v : List ℕ) → numbersPerTrade * (n + length ts) ≤ length v
@@ -42,22 +45,33 @@ written-append (t ∷ ts) us n v h =
     ∙ ap (λ (k : ℕ). writtenFrom k us (writtenFrom (n + 1) ts v′)) same
     ∙ ap (writtenFrom (n + suc (length ts)) us) (sym (written-next v n t room ts))
 
--- m₀, k₀, v₀ and b₀ are money, pieces, lent list and order book at the start; the securities before s are done
-pub record Rounds (r : Rules) (n : ℕ) (m₀ k₀ v₀ : List ℕ) (b₀ : OrderBook) (m k v : List ℕ) (b : OrderBook) (s : ℕ)
-    : Type 0 where
-  pub standing : Standing (dayOf r Closing m k b)
-  pub left : b .left ≡ 0
-  pub day : (closingFrom r (n - s) s m k b) .day ≡ (closingFrom r n 0 m₀ k₀ b₀) .day
-  pub trades : b .trades + length ((closingFrom r (n - s) s m k b) .trades) ≡ length ((closingFrom r n 0 m₀ k₀ b₀) .trades)
-  pub sum : b .filled + lotsOf ((closingFrom r (n - s) s m k b) .trades) ≡ lotsOf ((closingFrom r n 0 m₀ k₀ b₀) .trades)
-  pub list : writtenFrom (b .trades) ((closingFrom r (n - s) s m k b) .trades) v
-      ≡ writtenFrom 0 ((closingFrom r n 0 m₀ k₀ b₀) .trades) v₀
+-- the terms on an order book are those on its day, and they are fair
+terms-of : (z : Session) (r : Rules) (x : Phase) (m k : List ℕ) (b : OrderBook) (s : ℕ)
+    → termsWith z b s ≡ termsOf z (dayOf r x m k b) s
+unfolding closingTerms auctionTerms
+terms-of Closing r x m k b s = refl
+terms-of Auction r x m k b s = refl
 
-pub rounds-start : (r : Rules) (n : ℕ) (m k v : List ℕ) (b : OrderBook) → Standing (dayOf r Closing m k b)
-    → Rounds r n m k v b m k v (cleared b) 0
-rounds-start r n m k v b st =
-    let same : closingFrom r (n - 0) 0 m k b ≡ closingFrom r n 0 m k b =
-    ap (λ (q : ℕ). closingFrom r q 0 m k b) (omega arith) in
+terms-fair : (z : Session) (d : Day) (s : ℕ) → Standing d → d .phase ≡ phaseOf z → Fair s (termsOf z d s) d
+terms-fair Closing d s st e = closing-fair d s st e
+terms-fair Auction d s st e = auction-fair d s
+
+-- m₀, k₀, v₀ and b₀ are money, pieces, lent list and order book at the start; the securities before s are done
+pub record Rounds (z : Session) (r : Rules) (n : ℕ) (m₀ k₀ v₀ : List ℕ) (b₀ : OrderBook) (m k v : List ℕ) (b : OrderBook) (s : ℕ)
+    : Type 0 where
+  pub standing : Standing (dayOf r (phaseOf z) m k b)
+  pub left : b .left ≡ 0
+  pub day : (pairedFrom z r (n - s) s m k b) .day ≡ (pairedFrom z r n 0 m₀ k₀ b₀) .day
+  pub trades : b .trades + length ((pairedFrom z r (n - s) s m k b) .trades) ≡ length ((pairedFrom z r n 0 m₀ k₀ b₀) .trades)
+  pub sum : b .filled + lotsOf ((pairedFrom z r (n - s) s m k b) .trades) ≡ lotsOf ((pairedFrom z r n 0 m₀ k₀ b₀) .trades)
+  pub list : writtenFrom (b .trades) ((pairedFrom z r (n - s) s m k b) .trades) v
+      ≡ writtenFrom 0 ((pairedFrom z r n 0 m₀ k₀ b₀) .trades) v₀
+
+pub rounds-start : (z : Session) (r : Rules) (n : ℕ) (m k v : List ℕ) (b : OrderBook) → Standing (dayOf r (phaseOf z) m k b)
+    → Rounds z r n m k v b m k v (cleared b) 0
+rounds-start z r n m k v b st =
+    let same : pairedFrom z r (n - 0) 0 m k b ≡ pairedFrom z r n 0 m k b =
+    ap (λ (q : ℕ). pairedFrom z r q 0 m k b) (omega arith) in
     record {
       standing = st;
       left = refl;
@@ -67,24 +81,24 @@ rounds-start r n m k v b st =
       list = ap (λ (x : Paired). writtenFrom 0 (x .trades) v) same;
     }
 
-pub cleared-closes : {r : Rules} {n : ℕ} {l : List Security} {b : OrderBook} {m k : List ℕ} → Closes r n l b m k
-    → Closes r n l (cleared b) m k
-cleared-closes f = record { securities = f .securities; table = f .table; standing = f .standing }
+pub cleared-stands : {z : Session} {r : Rules} {n : ℕ} {l : List Security} {b : OrderBook} {m k : List ℕ}
+    → Stands z r n l b m k → Stands z r n l (cleared b) m k
+cleared-stands f = record { securities = f .securities; table = f .table; standing = f .standing }
 
 pub counts-start : (b : OrderBook) (v : List ℕ) → b .count ≤ maxWaiting → numbersPerTrade * b .count ≤ length v
     → Counts (cleared b) v
 counts-start b v room lent = record { most = omega arith; few = omega arith; lent = omega arith }
 
-module _ {r : Rules} {n : ℕ} {m₀ k₀ v₀ : List ℕ} {b₀ : OrderBook} {m k v : List ℕ} {b : OrderBook} {s : ℕ}
-    (g : Rounds r n m₀ k₀ v₀ b₀ m k v b s) where
+module _ {z : Session} {r : Rules} {n : ℕ} {m₀ k₀ v₀ : List ℕ} {b₀ : OrderBook} {m k v : List ℕ} {b : OrderBook} {s : ℕ}
+    (g : Rounds z r n m₀ k₀ v₀ b₀ m k v b s) where
   -- where no security is left, what the contract says holds
-  pub rounds-end : n ≤ s → PairedAs (closingFrom r n 0 m₀ k₀ b₀) r Closing (cleared b₀) v₀ m k v b
+  pub rounds-end : n ≤ s → PairedAs (pairedFrom z r n 0 m₀ k₀ b₀) r (phaseOf z) (cleared b₀) v₀ m k v b
   unfolding pairsFrom lotsOf
   rounds-end h =
-      let d = dayOf r Closing m k b in
+      let d = dayOf r (phaseOf z) m k b in
       let none : n - s ≡ 0 = omega arith in
-      let over : closingFrom r (n - s) s m k b ≡ record { day = d; trades = [] } =
-      ap (λ (q : ℕ). closingFrom r q s m k b) none in
+      let over : pairedFrom z r (n - s) s m k b ≡ record { day = d; trades = [] } =
+      ap (λ (q : ℕ). pairedFrom z r q s m k b) none in
       record {
         day = sym (ap (λ (x : Paired). x .day) over) ∙ g .day;
         standing = subst Standing (sym (ap (λ (x : Paired). x .day) over) ∙ g .day) (g .standing);
@@ -97,40 +111,36 @@ module _ {r : Rules} {n : ℕ} {m₀ k₀ v₀ : List ℕ} {b₀ : OrderBook} {m
         left = g .left;
       }
 
-  module _ (more : s < n) (all : r .securities ≡ n) {l : Security} (own : row r s ≡ l) {p : ℕ}
-      (price : p ≡ closingPrice (turnoverAt (b .turnover) s)) where
+  module _ (more : s < n) (all : r .securities ≡ n) {l : Security} (own : row r s ≡ l) {terms : Terms}
+      (reckoned : terms ≡ termsWith z b s) where
     abbrev d : Day
-    d = dayOf r Closing m k b
+    d = dayOf r (phaseOf z) m k b
 
-    abbrev terms : Terms
-    terms = record { limit = kind.Closing; price = p }
+    terms-are : terms ≡ termsOf z d s
+    terms-are = reckoned ∙ terms-of z r (phaseOf z) m k b s
 
-    terms-are : terms ≡ closingTerms d s
-    unfolding closingTerms
-    terms-are = ap (λ (q : ℕ). record { limit = kind.Closing; price = q }) price
-
-    pub rounds-meets : Meets r Closing l s terms b m k
+    pub rounds-meets : Meets r (phaseOf z) l s terms b m k
     rounds-meets = record {
       row = own;
       known = omega arith;
       standing = g .standing;
-      fair = subst (λ (t : Terms). Fair s t d) (sym terms-are) (closing-fair d s (g .standing) refl);
+      fair = subst (λ (t : Terms). Fair s t d) (sym terms-are) (terms-fair z d s (g .standing) refl);
     }
 
     pub rounds-next : {m′ k′ v′ : List ℕ} (b′ : OrderBook) → Counts b′ v′ → length v′ ≡ length v
-        → PairedAs (pairs s terms d) r Closing b v m′ k′ v′ b′ → Rounds r n m₀ k₀ v₀ b₀ m′ k′ v′ b′ (s + 1)
+        → PairedAs (pairs s terms d) r (phaseOf z) b v m′ k′ v′ b′ → Rounds z r n m₀ k₀ v₀ b₀ m′ k′ v′ b′ (s + 1)
     unfolding pairsFrom lotsOf
     rounds-next {m′} {k′} {v′} b′ counts long done =
         let x = pairs s terms d in
-        let rest = closingFrom r (n - (s + 1)) (s + 1) m′ k′ b′ in
+        let rest = pairedFrom z r (n - (s + 1)) (s + 1) m′ k′ b′ in
         let split : n - s ≡ suc (n - (s + 1)) = omega arith in
-        let whole : closingFrom r (n - s) s m k b ≡ record { day = rest .day; trades = x .trades ++ rest .trades } =
-        ap (λ (q : ℕ). closingFrom r q s m k b) split
-        ∙ ap (λ (t : Terms). followed (pairs s t d) (pairsFrom closingTerms (n - (s + 1)) (suc s))) (sym terms-are)
-        ∙ ap (λ (q : ℕ). followed x (pairsFrom closingTerms (n - (s + 1)) q)) (sym (add-one s))
+        let whole : pairedFrom z r (n - s) s m k b ≡ record { day = rest .day; trades = x .trades ++ rest .trades } =
+        ap (λ (q : ℕ). pairedFrom z r q s m k b) split
+        ∙ ap (λ (t : Terms). followed (pairs s t d) (pairsFrom (termsOf z) (n - (s + 1)) (suc s))) (sym terms-are)
+        ∙ ap (λ (q : ℕ). followed x (pairsFrom (termsOf z) (n - (s + 1)) q)) (sym (add-one s))
         ∙ ap (λ (e : Day). record {
-          day = (pairsFrom closingTerms (n - (s + 1)) (s + 1) e) .day;
-          trades = x .trades ++ (pairsFrom closingTerms (n - (s + 1)) (s + 1) e) .trades;
+          day = (pairsFrom (termsOf z) (n - (s + 1)) (s + 1) e) .day;
+          trades = x .trades ++ (pairsFrom (termsOf z) (n - (s + 1)) (s + 1) e) .trades;
         }) (sym (done .day)) in
         let room : numbersPerTrade * (b .trades + length (x .trades)) ≤ length v =
         omega (arith, counts .lent, done .trades, long) in
@@ -163,19 +173,19 @@ module _ {r : Rules} {n : ℕ} {m₀ k₀ v₀ : List ℕ} {b₀ : OrderBook} {m
         }
 
 -- the rest comes off
-module _ {r : Rules} {n : ℕ} {l : List Security} {m₀ k₀ v₀ : List ℕ} {b₀ : OrderBook} (c : Closes r n l b₀ m₀ k₀)
-    {m k v : List ℕ} {b : OrderBook} (p : PairedAs (closingFrom r n 0 m₀ k₀ b₀) r Closing (cleared b₀) v₀ m k v b) where
-  pub paired-standing : Standing (dayOf r Closing m k b)
+module _ {z : Session} {r : Rules} {n : ℕ} {l : List Security} {m₀ k₀ v₀ : List ℕ} {b₀ : OrderBook} (c : Stands z r n l b₀ m₀ k₀)
+    {m k v : List ℕ} {b : OrderBook} (p : PairedAs (pairedFrom z r n 0 m₀ k₀ b₀) r (phaseOf z) (cleared b₀) v₀ m k v b) where
+  pub paired-standing : Standing (dayOf r (phaseOf z) m k b)
   paired-standing = subst Standing (sym (p .day)) (p .standing)
 
   pub paired-ends : {m′ k′ : List ℕ} → AllLeft l b m k m′ k′
-      → EndsAs (endResult Closed (closingFrom r n 0 m₀ k₀ b₀)) r v₀ m′ k′ v (emptied b)
+      → EndsAs z (endResult (nextPhase z) (pairedFrom z r n 0 m₀ k₀ b₀)) r v₀ m′ k′ v (emptied b)
   paired-ends left =
-      let x = closingFrom r n 0 m₀ k₀ b₀ in
+      let x = pairedFrom z r n 0 m₀ k₀ b₀ in
       let lots : b .filled ≡ lotsOf (x .trades) = p .lots ∙ zero-add _ in
       let count : b .trades ≡ length (x .trades) = p .trades ∙ zero-add _ in
       record {
         answer = rw (lots, count);
-        day = left r Closing Closed (c .table) paired-standing ∙ ap (λ (d : Day). allLeave d Closed) (p .day);
+        day = left r (phaseOf z) (nextPhase z) (c .table) paired-standing ∙ ap (λ (d : Day). allLeave d (nextPhase z)) (p .day);
         list = p .list;
       }

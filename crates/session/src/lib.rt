@@ -1,7 +1,8 @@
-// The closing session on parts: its start, its orders, its end. Positions and the trade list are lent, the order book goes
-// by value.
+// The sessions outside continuous trading, on parts: their starts, closing orders, their ends. Positions and the trade list are
+// lent, the order book goes by value.
 use amounts::closing_price;
 use amounts::within;
+use auction::price;
 use market::Answer;
 use market::Carried;
 use market::Kind;
@@ -18,140 +19,84 @@ use market::Side;
 use market::Turnover;
 use market::declined;
 use market::is_closing;
+use market::is_collecting;
 use market::is_open;
-use matching::Found;
-use matching::execute;
-use matching::lesser;
-use matching::preferred;
-use matching::with_lots;
-use waiting::block_need;
+use market::registered;
+use pairing::free_all;
+use pairing::pair_all;
+use waiting::append;
 use waiting::covers;
-use waiting::free_need;
-ghost use Prim.Native.Nat.{_≤_};
+ghost use Prim.Native.Nat.{_≤_, _<_};
 ghost use mathlib.Core.Path.{_≡_};
 ghost use mathlib.Core.List.{[]};
-ghost use Rattle.market.specs.Limits.{maxCodes};
-ghost use Rattle.market.specs.Calls.{closingOrder, endSession, startClosing};
+ghost use Rattle.market.specs.Limits.{maxCodes, maxSecurities};
+ghost use Rattle.market.specs.Calls.{closingOrder, startClosing};
 ghost use Rattle.market.specs.Questions.{firstNo};
-ghost use Rattle.market.specs.Closing.{counterparty as standsFor};
 ghost use Rattle.market.specs.Parts.{Carries, Ready};
+ghost use Rattle.matching.specs.Orders.{FewLots, waitingIn};
 ghost use Rattle.waiting.specs.Claims.{Reckonable};
-ghost use Rattle.session.specs.Leaving.{AllLeft, Leavable};
-ghost use Rattle.session.specs.Pairing.{Closable, ClosingPairs, Ends, Pairable, Pairs, slots};
-ghost use Rattle.session.specs.Appending.{Appendable, Appends, Askable, ClosingNo, closingWith, earlyClosing, laterClosing};
+ghost use Rattle.session.specs.Ending.{Endable, Ends, PairsAll, endOf, endsIn, nextPhase, termsWith};
+ghost use Rattle.session.specs.Collecting.{Collects};
+ghost use Rattle.session.specs.Asking.{Askable, ClosingNo, closingWith, earlyClosing, laterClosing};
 
-// The needs of all waiting orders are freed. The caller's book has no orders then: `book.count = 0`.
-fn free_all(book: OrderBook, table: [Security; 16], money: &mut [u64; 512], pieces: &mut [u64; 512])
-    requires { ⌜ Leavable table book (now money) (now pieces) ⌝ }
-    ensures { λ _. ⌜ AllLeft table book (now (money .entry)) (now (pieces .entry)) (now (money .exit)) (now (pieces .exit)) ⌝ }
-{
-    let count = book.count;
-    let mut i: usize = 0;
-    while i < count {
-        let o = book.orders[i];
-        let security = o.security as usize;
-        let row = table[security];
-        let turnover = book.turnover[security];
-        free_need(money, pieces, row, turnover, o);
-        i += 1;
-    }
+// What ends with its orders paired: the closing session, or collecting with its auction.
+pub enum Session {
+    Closing,
+    Auction,
 }
 
-// What stands for the other side when the oldest order of a side is looked for.
-fn counterparty(side: Side, security: u64, limit: Kind) -> Order
-    ensures { λ r. ⌜ r ≡ standsFor side security limit ⌝ }
-{
-    Order {
-        code: 0,
-        participant: 0,
-        side,
-        security,
-        lots: 0,
-        kind: limit,
-    }
-}
-
-// How many places an order keeps: none where its lots are used up.
-fn slots_of(o: Order) -> usize
-    ensures { λ r. ⌜ r ≡ slots o ⌝ }
-{
-    if 0 < o.lots { 1 } else { 0 }
-}
-
-// The first buy with the first sell of a security, until one side is used up. `limit` and `price` are the terms: which
-// orders meet, and at which price. These trades don't enter Q or T. Lots and trades add to those of the book.
-fn pair_all(
-    b: OrderBook,
-    security: u64,
+// Which orders meet, and at which price.
+struct Terms {
     limit: Kind,
     price: u64,
-    row: Security,
-    money: &mut [u64; 512],
-    pieces: &mut [u64; 512],
-    trades: &mut [u64],
-) -> OrderBook
-    requires { ⌜ Pairable row security (record { limit = limit; price = price }) b (now money) (now pieces) (now trades) ⌝ }
-    ensures { λ r. ⌜ Pairs row security (record { limit = limit; price = price }) b (now (money .entry)) (now (pieces .entry)) (now (trades .entry)) (now (money .exit)) (now (pieces .exit)) (now (trades .exit)) r ⌝ }
-{
-    let mut book = b;
-    let turnover = book.turnover[security as usize];
-    let seller = counterparty(Side::Sell, security, limit);
-    let buyer = counterparty(Side::Buy, security, limit);
-    let mut made = book.trades as usize;
-    'pairs: loop {
-        // The list is by rising code, so the first of equal prices is the oldest.
-        let count = book.count;
-        let mut buys = Found::Nothing;
-        let mut sells = Found::Nothing;
-        let mut i: usize = 0;
-        'search: while i < count {
-            let o = book.orders[i];
-            buys = preferred(seller, buys, o, i);
-            sells = preferred(buyer, sells, o, i);
-            i += 1;
-        }
-        let Found::At(at, _) = buys else {
-            break 'pairs;
-        };
-        let Found::At(to, _) = sells else {
-            break 'pairs;
-        };
-        let buy = book.orders[at];
-        let sell = book.orders[to];
-        let lots = lesser(buy.lots, sell.lots);
-        execute(
-            money,
-            pieces,
-            trades,
-            made,
-            row,
-            turnover,
-            buy,
-            sell,
-            price,
-            lots,
-        );
-        book.orders[at] = with_lots(buy, buy.lots - lots);
-        book.orders[to] = with_lots(sell, sell.lots - lots);
-        // A filled order gives its place up. In a function of its own this would copy the book.
-        let mut k: usize = 0;
-        let mut kept: usize = 0;
-        'keep: while k < count {
-            let o = book.orders[k];
-            book.orders[kept] = o;
-            kept += slots_of(o);
-            k += 1;
-        }
-        book.count = kept;
-        book.filled = book.filled + lots;
-        made += 1;
-    }
-    book.trades = made as u64;
-    book
 }
 
-// Security by security, at the closing price. Lots and trades of the book are those of the pairing.
-fn pair_closing(
+// May this session end in this phase?
+fn ends_in(session: Session, phase: Phase) -> bool
+    ensures { λ r. ⌜ r ≡ endsIn session phase ⌝ }
+{
+    match session {
+        Session::Closing => is_closing(phase),
+        Session::Auction => is_collecting(phase),
+    }
+}
+
+// The day is closed, or continuous trading begins.
+fn next_phase(session: Session) -> Phase
+    ensures { λ r. ⌜ r ≡ nextPhase session ⌝ }
+{
+    match session {
+        Session::Closing => Phase::Closed,
+        Session::Auction => Phase::Open,
+    }
+}
+
+// The terms in a security when its turn comes; the trades before it in other securities don't move them.
+fn terms_for(session: Session, book: OrderBook, security: u64) -> Terms
+    requires { ⌜ FewLots (book .count) (waitingIn book) × (security < maxSecurities) ⌝ }
+    ensures { λ r. ⌜ record { limit = r .limit; price = r .price } ≡ termsWith session book security ⌝ }
+{
+    match session {
+        Session::Closing => {
+            let turnover = book.turnover[security as usize];
+            Terms {
+                limit: Kind::Closing,
+                price: closing_price(turnover),
+            }
+        }
+        Session::Auction => {
+            let price = price(book, security);
+            Terms {
+                limit: Kind::Kept(price),
+                price,
+            }
+        }
+    }
+}
+
+// Security by security, under the terms of the session. Lots and trades of the book are those of the pairing.
+fn pair_securities(
+    session: Session,
     b: OrderBook,
     securities: u64,
     table: [Security; 16],
@@ -159,8 +104,8 @@ fn pair_closing(
     pieces: &mut [u64; 512],
     trades: &mut [u64],
 ) -> OrderBook
-    requires { ⌜ Closable securities table b (now money) (now pieces) (now trades) ⌝ }
-    ensures { λ r. ⌜ ClosingPairs securities table b (now (money .entry)) (now (pieces .entry)) (now (trades .entry)) (now (money .exit)) (now (pieces .exit)) (now (trades .exit)) r ⌝ }
+    requires { ⌜ Endable session securities table b (now money) (now pieces) (now trades) ⌝ }
+    ensures { λ r. ⌜ PairsAll session securities table b (now (money .entry)) (now (pieces .entry)) (now (trades .entry)) (now (money .exit)) (now (pieces .exit)) (now (trades .exit)) r ⌝ }
 {
     let mut book = b;
     book.filled = 0;
@@ -169,13 +114,13 @@ fn pair_closing(
     let mut security: u64 = 0;
     while security < securities {
         let row = table[security as usize];
-        let turnover = book.turnover[security as usize];
-        let price = closing_price(turnover);
+        let terms = terms_for(session, book, security);
+        let limit = terms.limit;
         book = pair_all(
             book,
             security,
-            Kind::Closing,
-            price,
+            limit,
+            terms.price,
             row,
             money,
             pieces,
@@ -186,8 +131,9 @@ fn pair_closing(
     book
 }
 
-// The session's end: closing orders trade, the rest comes off. The caller's phase is closed then.
+// Orders are paired, the rest come off. The caller's phase is another one then.
 fn end_pairing(
+    session: Session,
     b: OrderBook,
     securities: u64,
     table: [Security; 16],
@@ -195,10 +141,10 @@ fn end_pairing(
     pieces: &mut [u64; 512],
     trades: &mut [u64],
 ) -> OrderBook
-    requires { ⌜ Closable securities table b (now money) (now pieces) (now trades) ⌝ }
-    ensures { λ r. ⌜ Ends securities table b (now (money .entry)) (now (pieces .entry)) (now (trades .entry)) (now (money .exit)) (now (pieces .exit)) (now (trades .exit)) r ⌝ }
+    requires { ⌜ Endable session securities table b (now money) (now pieces) (now trades) ⌝ }
+    ensures { λ r. ⌜ Ends session securities table b (now (money .entry)) (now (pieces .entry)) (now (trades .entry)) (now (money .exit)) (now (pieces .exit)) (now (trades .exit)) r ⌝ }
 {
-    let mut book = pair_closing(b, securities, table, money, pieces, trades);
+    let mut book = pair_securities(session, b, securities, table, money, pieces, trades);
     free_all(book, table, money, pieces);
     book.count = 0;
     book
@@ -370,15 +316,29 @@ pub fn enter_closing_order(
     let table = rules.table;
     let row = table[security as usize];
     let book = append(b, o, row, money, pieces);
+    registered(book, phase)
+}
+
+// The phase before an auction: kept orders only wait. Nothing has been registered yet, so none waits.
+pub fn start_collecting(b: OrderBook, phase: Phase) -> Carried
+    ensures { λ r. ⌜ Collects phase b r ⌝ }
+{
+    if !is_open(phase) {
+        return declined(b, phase, 6);
+    }
+    if 0 < b.codes {
+        return declined(b, phase, 21);
+    }
     Carried {
-        answer: Answer::Done(book.codes, book.filled, book.left, book.trades),
-        phase,
-        book,
+        answer: Answer::Done(0, 0, 0, 0),
+        phase: Phase::Collecting,
+        book: b,
     }
 }
 
-// Closing orders trade, the rest come off, the day is closed.
-pub fn end_session(
+// Orders are paired under the session's terms, the rest come off, and the next phase begins.
+pub fn end(
+    session: Session,
     b: OrderBook,
     rules: Rules,
     phase: Phase,
@@ -387,19 +347,19 @@ pub fn end_session(
     trades: &mut [u64],
 ) -> Carried
     requires { ⌜ Ready rules phase (now money) (now pieces) b ⌝ }
-    ensures { λ r. ⌜ Carries rules phase (now (money .entry)) (now (pieces .entry)) b (now (trades .entry)) endSession (now (money .exit)) (now (pieces .exit)) (now (trades .exit)) r ⌝ }
+    ensures { λ r. ⌜ Carries rules phase (now (money .entry)) (now (pieces .entry)) b (now (trades .entry)) (endOf session) (now (money .exit)) (now (pieces .exit)) (now (trades .exit)) r ⌝ }
 {
     if trades.len() < LENT_AT_LEAST {
         return declined(b, phase, 2);
     }
-    if !is_closing(phase) {
+    if !ends_in(session, phase) {
         return declined(b, phase, 6);
     }
     let table = rules.table;
-    let book = end_pairing(b, rules.securities, table, money, pieces, trades);
+    let book = end_pairing(session, b, rules.securities, table, money, pieces, trades);
     Carried {
         answer: Answer::Done(0, book.filled, 0, book.trades),
-        phase: Phase::Closed,
+        phase: next_phase(session),
         book,
     }
 }

@@ -4,7 +4,7 @@ use native.Mathlib.Omega.{arith}
 use mathlib.Core.Path.{_≡_}
 use Rattle.market.specs.Limits.{maxSecurities}
 use Rattle.market.specs.Questions.{firstNo}
-use Rattle.session.specs.Appending.{earlyClosing}
+use Rattle.session.specs.Asking.{earlyClosing}
 use Rattle.session.proofs.Asking.{in-rules, no-early, no-later, reckonable}
 use borrow.Author.Needs.{needs}
 use Rattle.session.proofs.closing_no.Statement.{statement}

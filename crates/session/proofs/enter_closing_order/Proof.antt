@@ -73,13 +73,18 @@ append-requires c κs =
     appendable (a .rules) (a .phase) (a .money .now) (a .pieces .now) (a .b) (b .pre) (a .participant) (a .side) (a .security)
     (a .lots) (none (o .before)) (o .closing-order .ensures)
 
+registered-requires : tie.Need-registered-requires
+registered-requires c κs = search needs
+
 returns-2 : tie.Need-returns-2
 returns-2 c =
-    let o = c .before .before .before .before .before in
+    let n = c .before in
+    let o = n .before .before .before .before .before in
     let b = start (o .before .before) in
     let a = b .args in
-    appended (a .rules) (a .phase) (a .money .now) (a .pieces .now) (a .b) (b .pre) (a .participant) (a .side) (a .security)
-    (a .lots) (none (o .before)) (o .closing-order .ensures) (c .append .result) (c .append .ensures)
+    rw (c .registered .ensures)
+    (appended (a .rules) (a .phase) (a .money .now) (a .pieces .now) (a .b) (b .pre) (a .participant) (a .side) (a .security)
+    (a .lots) (none (o .before)) (o .closing-order .ensures) (n .append .result) (n .append .ensures))
 
 pub enter-closing-order-spec : {M : Type 1} → statement M
 enter-closing-order-spec =
@@ -92,4 +97,5 @@ enter-closing-order-spec =
     mul-row
     array-copy-out-row
     append-requires
+    registered-requires
     returns-2)

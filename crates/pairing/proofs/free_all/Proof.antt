@@ -1,4 +1,4 @@
--- `session::free_all` meets its contract: order by order, what each needs is freed, under all rules that have the table.
+-- `pairing::free_all` meets its contract: order by order, what each needs is freed, under all rules that have the table.
 use Prim.Native.Nat.{_-_, _<_}
 use native.Mathlib.Omega.{arith}
 use mathlib.Core.Path.{_≡_, ap, sym, _∙_, subst}
@@ -13,10 +13,10 @@ use Rattle.market.specs.View.{dayOf}
 use Rattle.market.specs.Positions.{release}
 use Rattle.invariant.specs.Standing.{Standing}
 use Rattle.waiting.specs.Claims.{Freeable, moneyWith, piecesWith}
-use Rattle.session.proofs.Leaving.{Leaving, leaving-ends, leaving-next, leaving-ready, leaving-security}
-use Rattle.session.proofs.Leaving.{count-room, leaving-starts}
-use Rattle.session.proofs.free_all.Statement.{statement}
-use Rattle.session.proofs.free_all.Tie as tie
+use Rattle.pairing.proofs.Leaving.{Leaving, leaving-ends, leaving-next, leaving-ready, leaving-security}
+use Rattle.pairing.proofs.Leaving.{count-room, leaving-starts}
+use Rattle.pairing.proofs.free_all.Statement.{statement}
+use Rattle.pairing.proofs.free_all.Tie as tie
 
 abbrev Inv-loop : tie.InvT-loop
 Inv-loop money₀ pieces₀ book table count i₀ money pieces i =

@@ -1,29 +1,23 @@
--- A closing order on the parts of a day: its questions, what it asks, and what it does.
+-- The questions of a closing order on the parts of a day.
 use Prim.Native.Nat.{ℕ, _+_, _≤_, _<_}
 use mathlib.Core.Path.{_≡_}
 use mathlib.Core.List.{List, [], _∷_}
-use Rattle.market.specs.declared.Answer.the-variants.{Done}
 use Rattle.market.specs.declared.Kind.the-variants as kind
 use Rattle.market.specs.declared.Order.{Order}
 use Rattle.market.specs.declared.OrderBook.{OrderBook}
 use Rattle.market.specs.declared.Phase.{Phase}
-use Rattle.market.specs.declared.Phase.the-variants.{Closing}
 use Rattle.market.specs.declared.Security.{Security}
 use Rattle.market.specs.declared.Side.{Side}
 use Rattle.market.specs.declared.Turnover.{Turnover}
 use Rattle.market.specs.Limits.{maxCodes, maxPrice, maxWaiting}
 use Rattle.market.specs.Tests.{_<?_, known}
 use Rattle.market.specs.declared.Rules.{Rules}
-use Rattle.market.specs.Day.{row, turnoverAt}
+use Rattle.market.specs.Day.{turnoverAt}
 use Rattle.market.specs.View.{dayOf}
 use Rattle.market.specs.Needs.{closingPrice}
 use Rattle.market.specs.Sound.{hasTraded, isClosing, lotsSound}
-use Rattle.market.specs.Answers.{Result}
-use Rattle.market.specs.Calls.{closingOf}
 use Rattle.market.specs.Questions.{Question, ask, closingQuestions, firstNo}
-use Rattle.market.specs.Entry.{placed}
 use Rattle.market.proofs.Known.{RulesOk}
-use Rattle.invariant.specs.Standing.{Standing}
 use Rattle.waiting.specs.Claims.{coveredBy}
 
 -- a closing order as it enters, where so many codes are given
@@ -64,28 +58,3 @@ abbrev pub ClosingNo : Rules → Phase → List Turnover → (count codes : ℕ)
 ClosingNo r x t count codes m k p side s n i =
     (b : OrderBook) → b .turnover ≡ t → b .count ≡ count → b .codes ≡ codes
     → i ≡ firstNo (closingQuestions (dayOf r x m k b) p side s n)
-
--- under rules r, l is the row of the order's security, the day is sound, and o is a closing order that passed its questions
-pub record Admits (r : Rules) (l : Security) (b : OrderBook) (o : Order) (m k : List ℕ) : Type 0 where
-  pub row : row r (o .security) ≡ l
-  pub standing : Standing (dayOf r Closing m k b)
-  pub participant : ℕ
-  pub side : Side
-  pub security : ℕ
-  pub lots : ℕ
-  pub entry : o ≡ closingOf (dayOf r Closing m k b) participant side security lots
-  pub asked : firstNo (closingQuestions (dayOf r Closing m k b) participant side security lots) ≡ 0
-
--- there are such rules
-pub record Appendable (l : Security) (b : OrderBook) (o : Order) (m k : List ℕ) : Type 0 where
-  pub rules : Rules
-  pub admits : Admits rules l b o m k
-
--- answer and day are those of a result x
-pub record AppendedAs (x : Result) (r : Rules) (m′ k′ : List ℕ) (b′ : OrderBook) : Type 0 where
-  pub answer : Done (b′ .codes) (b′ .filled) (b′ .left) (b′ .trades) ≡ x .answer
-  pub day : dayOf r Closing m′ k′ b′ ≡ x .day
-
--- under all such rules, the definition's
-abbrev pub Appends : Security → OrderBook → Order → (m k m′ k′ : List ℕ) → OrderBook → Type 0
-Appends l b o m k m′ k′ b′ = (r : Rules) → Admits r l b o m k → AppendedAs (placed (dayOf r Closing m k b) o) r m′ k′ b′

@@ -26,7 +26,7 @@ use Rattle.matching.specs.Orders.{waitingIn}
 use Rattle.matching.proofs.First.{first-at}
 use Rattle.waiting.specs.Claims.{Freeable, moneyWith, piecesWith}
 use Rattle.waiting.proofs.Days.{day-moved, frees}
-use Rattle.session.specs.Leaving.{emptied}
+use Rattle.pairing.specs.Leaving.{emptied}
 
 -- the day when the first i orders of the book have left
 abbrev pub restDay : Rules → Phase → (m k : List ℕ) → OrderBook → ℕ → Day

@@ -20,8 +20,8 @@ use Rattle.market.specs.Needs.{limitOf, needAt, piecesOf, sumFor}
 use Rattle.market.specs.Positions.{settle}
 use Rattle.market.specs.TradeList.{lotsOf, tradeOf}
 use Rattle.market.specs.Matching.{Best, found, none}
-use Rattle.market.specs.Closing.{Paired, Terms, counterparty, firstBuy, firstSell, pairedOff, pairs}
-use Rattle.market.specs.Closing.{takeBoth}
+use Rattle.market.specs.Pairing.{Paired, Terms, counterparty, firstBuy, firstSell, pairedOff, pairs}
+use Rattle.market.specs.Pairing.{takeBoth}
 use Rattle.market.proofs.Lists.{All, all-at, all-map, sum-remove}
 use Rattle.market.proofs.Known.{OrderOk}
 use Rattle.market.proofs.Matching.{Chosen, best-chosen}
@@ -35,8 +35,8 @@ use Rattle.matching.specs.Orders.{waitingIn}
 use Rattle.matching.specs.Written.{tradeWritten}
 use Rattle.matching.proofs.Ready.{settled, settles}
 use Rattle.matching.proofs.Writing.{written-length, written-next, writtenFrom}
-use Rattle.session.specs.Pairing.{Counts, Meets, PairedAs}
-use Rattle.session.proofs.Keeping.{Positive}
+use Rattle.pairing.specs.Pairing.{Counts, Meets, PairedAs}
+use Rattle.pairing.proofs.Keeping.{Positive}
 
 -- the parts at the start: rules, phase, row, security, terms, money, pieces, order book, lent list
 pub record Start : Type 0 where

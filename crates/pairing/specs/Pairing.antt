@@ -4,20 +4,17 @@ use mathlib.Core.Path.{_≡_}
 use mathlib.Core.List.{List}
 use mathlib.Core.Bool.{cond}
 use lib.ListN.{length}
-use Rattle.market.specs.declared.Answer.the-variants.{Done}
 use Rattle.market.specs.declared.Order.{Order}
 use Rattle.market.specs.declared.OrderBook.{OrderBook}
 use Rattle.market.specs.declared.Phase.{Phase}
-use Rattle.market.specs.declared.Phase.the-variants.{Closed, Closing}
 use Rattle.market.specs.declared.Security.{Security}
 use Rattle.market.specs.Limits.{maxLots, maxWaiting, numbersPerTrade}
 use Rattle.market.specs.Tests.{_<?_}
 use Rattle.market.specs.declared.Rules.{Rules}
 use Rattle.market.specs.Day.{row}
 use Rattle.market.specs.View.{dayOf}
-use Rattle.market.specs.TradeList.{lotsOf, written}
-use Rattle.market.specs.Answers.{Result}
-use Rattle.market.specs.Closing.{Paired, Terms, closingTerms, endResult, pairs, pairsFrom}
+use Rattle.market.specs.TradeList.{lotsOf}
+use Rattle.market.specs.Pairing.{Paired, Terms, pairs}
 use Rattle.invariant.specs.Standing.{Standing}
 use Rattle.invariant.proofs.Pairing.{Fair}
 use Rattle.matching.proofs.Writing.{writtenFrom}
@@ -63,47 +60,3 @@ pub record Pairs (l : Security) (s : ℕ) (t : Terms) (b : OrderBook) (m k v m�
     pub long : length v′ ≡ length v
     pub under : (r : Rules) (x : Phase) → Meets r x l s t b m k
         → PairedAs (pairs s t (dayOf r x m k b)) r x b v m′ k′ v′ b′
-
--- the book before the session's end: no lots and trades are counted yet
-abbrev pub cleared : OrderBook → OrderBook
-cleared b = record {
-  orders = b .orders;
-  count = b .count;
-  codes = b .codes;
-  turnover = b .turnover;
-  filled = 0;
-  left = 0;
-  trades = 0;
-}
-
--- rules r have n securities with the table l, and the day of these parts is sound while closing
-pub record Closes (r : Rules) (n : ℕ) (l : List Security) (b : OrderBook) (m k : List ℕ) : Type 0 where
-  pub securities : r .securities ≡ n
-  pub table : r .table ≡ l
-  pub standing : Standing (dayOf r Closing m k b)
-
--- there are such rules, and room for a trade with each waiting order
-pub record Closable (n : ℕ) (l : List Security) (b : OrderBook) (m k v : List ℕ) : Type 0 where
-  pub rules : Rules
-  pub closes : Closes rules n l b m k
-  pub lent : numbersPerTrade * b .count ≤ length v
-
--- the pairing of all securities from s on
-abbrev pub closingFrom : Rules → (n s : ℕ) → (m k : List ℕ) → OrderBook → Paired
-closingFrom r n s m k b = pairsFrom closingTerms n s (dayOf r Closing m k b)
-
--- under all such rules, the definition's pairing of the closing session
-abbrev pub ClosingPairs : (n : ℕ) → List Security → OrderBook → (m k v m′ k′ v′ : List ℕ) → OrderBook → Type 0
-ClosingPairs n l b m k v m′ k′ v′ b′ =
-    (r : Rules) → Closes r n l b m k → PairedAs (closingFrom r n 0 m k b) r Closing (cleared b) v m′ k′ v′ b′
-
--- answer, day and lent list are those of a result x
-pub record EndsAs (x : Result) (r : Rules) (v m′ k′ v′ : List ℕ) (b′ : OrderBook) : Type 0 where
-  pub answer : Done 0 (b′ .filled) 0 (b′ .trades) ≡ x .answer
-  pub day : dayOf r Closed m′ k′ b′ ≡ x .day
-  pub list : v′ ≡ written (x .trades) v
-
--- under all such rules, the definition's end of the session
-abbrev pub Ends : (n : ℕ) → List Security → OrderBook → (m k v m′ k′ v′ : List ℕ) → OrderBook → Type 0
-Ends n l b m k v m′ k′ v′ b′ =
-    (r : Rules) → Closes r n l b m k → EndsAs (endResult Closed (closingFrom r n 0 m k b)) r v m′ k′ v′ b′

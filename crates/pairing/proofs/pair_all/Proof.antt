@@ -1,4 +1,4 @@
--- `session::pair_all` meets its contract: both searches keep the best of the orders passed, and each turn leaves what the
+-- `pairing::pair_all` meets its contract: both searches keep the best of the orders passed, and each turn leaves what the
 -- definition's pairing comes to as it was, under all rules that have the security's row.
 use Prim.Native.Nat.{ℕ, _+_, _-_, _≤_, _<_, min}
 use native.Mathlib.Nat.{min-le-left, min-le-right}
@@ -15,20 +15,20 @@ use Rattle.market.specs.Limits.{maxWaiting}
 use Rattle.market.specs.declared.Rules.{Rules}
 use Rattle.market.specs.Day.{orderAt}
 use Rattle.market.specs.Matching.{best, found}
-use Rattle.market.specs.Closing.{counterparty, takeBoth}
+use Rattle.market.specs.Pairing.{counterparty, takeBoth}
 use Rattle.market.proofs.Sized.{sized-book}
 use Rattle.matching.specs.Orders.{waitingIn}
 use Rattle.matching.specs.Search.{bestOf}
 use Rattle.matching.proofs.First.{first-at}
 use Rattle.matching.proofs.Search.{Searched, search-ends, search-starts, search-step}
-use Rattle.session.specs.Pairing.{Counts, Meets}
-use Rattle.session.proofs.Keeping.{Keeping, keeping-both, keeping-next, keeping-starts}
-use Rattle.session.proofs.Going.{Going, Same, going-apart, going-buy, going-counts, going-less, going-lots, going-next}
-use Rattle.session.proofs.Going.{going-no-buy, going-no-sell, going-positive, going-ready, going-room, going-security}
-use Rattle.session.proofs.Going.{going-sell, going-starts}
-use Rattle.session.proofs.Going as going
-use Rattle.session.proofs.pair_all.Statement.{statement}
-use Rattle.session.proofs.pair_all.Tie as tie
+use Rattle.pairing.specs.Pairing.{Counts, Meets}
+use Rattle.pairing.proofs.Keeping.{Keeping, keeping-both, keeping-next, keeping-starts}
+use Rattle.pairing.proofs.Going.{Going, Same, going-apart, going-buy, going-counts, going-less, going-lots, going-next}
+use Rattle.pairing.proofs.Going.{going-no-buy, going-no-sell, going-positive, going-ready, going-room, going-security}
+use Rattle.pairing.proofs.Going.{going-sell, going-starts}
+use Rattle.pairing.proofs.Going as going
+use Rattle.pairing.proofs.pair_all.Statement.{statement}
+use Rattle.pairing.proofs.pair_all.Tie as tie
 
 abbrev Inv-search : tie.InvT-search
 Inv-search security price row money pieces trades book turnover seller buyer made count buys₀ sells₀ i₀ buys sells i =

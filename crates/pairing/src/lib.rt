@@ -1,0 +1,132 @@
+// What the sessions outside continuous trading share: the first buy with the first sell of a security, over and over, and
+// all waiting orders come off. Positions and the trade list are lent, the order book goes by value.
+use market::Kind;
+use market::Order;
+use market::OrderBook;
+use market::Security;
+use market::Side;
+use matching::Found;
+use matching::execute;
+use matching::lesser;
+use matching::preferred;
+use matching::with_lots;
+use waiting::free_need;
+ghost use mathlib.Core.Path.{_≡_};
+ghost use Rattle.market.specs.Pairing.{counterparty as standsFor};
+ghost use Rattle.pairing.specs.Leaving.{AllLeft, Leavable};
+ghost use Rattle.pairing.specs.Pairing.{Pairable, Pairs, slots};
+
+// The needs of all waiting orders are freed. The caller's book has no orders then: `book.count = 0`.
+pub fn free_all(
+    book: OrderBook,
+    table: [Security; 16],
+    money: &mut [u64; 512],
+    pieces: &mut [u64; 512],
+)
+    requires { ⌜ Leavable table book (now money) (now pieces) ⌝ }
+    ensures { λ _. ⌜ AllLeft table book (now (money .entry)) (now (pieces .entry)) (now (money .exit)) (now (pieces .exit)) ⌝ }
+{
+    let count = book.count;
+    let mut i: usize = 0;
+    while i < count {
+        let o = book.orders[i];
+        let security = o.security as usize;
+        let row = table[security];
+        let turnover = book.turnover[security];
+        free_need(money, pieces, row, turnover, o);
+        i += 1;
+    }
+}
+
+// What stands for the other side when the oldest order of a side is looked for.
+fn counterparty(side: Side, security: u64, limit: Kind) -> Order
+    ensures { λ r. ⌜ r ≡ standsFor side security limit ⌝ }
+{
+    Order {
+        code: 0,
+        participant: 0,
+        side,
+        security,
+        lots: 0,
+        kind: limit,
+    }
+}
+
+// How many places an order keeps: none where its lots are used up.
+fn slots_of(o: Order) -> usize
+    ensures { λ r. ⌜ r ≡ slots o ⌝ }
+{
+    if 0 < o.lots { 1 } else { 0 }
+}
+
+// The first buy with the first sell of a security, until one side is used up. `limit` and `price` are the terms: which
+// orders meet, and at which price. These trades don't enter Q or T. Lots and trades add to those of the book.
+pub fn pair_all(
+    b: OrderBook,
+    security: u64,
+    limit: Kind,
+    price: u64,
+    row: Security,
+    money: &mut [u64; 512],
+    pieces: &mut [u64; 512],
+    trades: &mut [u64],
+) -> OrderBook
+    requires { ⌜ Pairable row security (record { limit = limit; price = price }) b (now money) (now pieces) (now trades) ⌝ }
+    ensures { λ r. ⌜ Pairs row security (record { limit = limit; price = price }) b (now (money .entry)) (now (pieces .entry)) (now (trades .entry)) (now (money .exit)) (now (pieces .exit)) (now (trades .exit)) r ⌝ }
+{
+    let mut book = b;
+    let turnover = book.turnover[security as usize];
+    let seller = counterparty(Side::Sell, security, limit);
+    let buyer = counterparty(Side::Buy, security, limit);
+    let mut made = book.trades as usize;
+    'pairs: loop {
+        // The list is by rising code, so the first of equal prices is the oldest.
+        let count = book.count;
+        let mut buys = Found::Nothing;
+        let mut sells = Found::Nothing;
+        let mut i: usize = 0;
+        'search: while i < count {
+            let o = book.orders[i];
+            buys = preferred(seller, buys, o, i);
+            sells = preferred(buyer, sells, o, i);
+            i += 1;
+        }
+        let Found::At(at, _) = buys else {
+            break 'pairs;
+        };
+        let Found::At(to, _) = sells else {
+            break 'pairs;
+        };
+        let buy = book.orders[at];
+        let sell = book.orders[to];
+        let lots = lesser(buy.lots, sell.lots);
+        execute(
+            money,
+            pieces,
+            trades,
+            made,
+            row,
+            turnover,
+            buy,
+            sell,
+            price,
+            lots,
+        );
+        book.orders[at] = with_lots(buy, buy.lots - lots);
+        book.orders[to] = with_lots(sell, sell.lots - lots);
+        // A filled order gives its place up. In a function of its own this would copy the book.
+        let mut k: usize = 0;
+        let mut kept: usize = 0;
+        'keep: while k < count {
+            let o = book.orders[k];
+            book.orders[kept] = o;
+            kept += slots_of(o);
+            k += 1;
+        }
+        book.count = kept;
+        book.filled = book.filled + lots;
+        made += 1;
+    }
+    book.trades = made as u64;
+    book
+}
