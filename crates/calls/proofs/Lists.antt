@@ -12,7 +12,7 @@ use Rattle.market.specs.Day.{Day}
 use Rattle.market.specs.View.{dayOf}
 use Rattle.market.specs.TradeList.{Trade, written}
 use Rattle.market.specs.Answers.{Result}
-use Rattle.market.specs.Calls.{Call, cancel, closingOrder, startClosing}
+use Rattle.market.specs.Calls.{Call, cancel, closingOrder, startClosing, startCollecting}
 use Rattle.market.specs.Questions.{firstNo, questions}
 use Rattle.market.specs.Entry.{placed}
 use Rattle.market.specs.Step.{allQuestions, answerBy, effect, result, step}
@@ -30,6 +30,10 @@ cancel-listless p code = record { asks = λ d n. refl; writes = λ d. refl }
 pub start-listless : Listless startClosing
 unfolding questions effect
 start-listless = record { asks = λ d n. refl; writes = λ d. refl }
+
+pub collecting-listless : Listless startCollecting
+unfolding questions effect
+collecting-listless = record { asks = λ d n. refl; writes = λ d. refl }
 
 pub closing-listless : (p : ℕ) (side : Side) (s lots : ℕ) → Listless (closingOrder p side s lots)
 unfolding questions effect placed

@@ -10,9 +10,11 @@ use orders::cancel;
 use orders::order;
 use reserves::answer_of;
 use reserves::moved;
-use session::end_session;
+use session::Session;
+use session::end;
 use session::enter_closing_order;
 use session::start_closing;
+use session::start_collecting;
 ghost use Rattle.market.specs.Parts.{Carries, Ready, callOf};
 
 // A group's members stand beside the call. Trades stand from the start of the lent list on.
@@ -47,6 +49,8 @@ pub fn carry_out(
         Call::ClosingOrder(p, side, s, lots) => {
             enter_closing_order(b, rules, phase, p, side, s, lots, money, pieces)
         }
-        Call::EndSession => end_session(b, rules, phase, money, pieces, trades),
+        Call::EndSession => end(Session::Closing, b, rules, phase, money, pieces, trades),
+        Call::StartCollecting => start_collecting(b, phase),
+        Call::EndCollecting => end(Session::Auction, b, rules, phase, money, pieces, trades),
     }
 }

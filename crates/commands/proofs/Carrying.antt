@@ -37,7 +37,7 @@ use Rattle.lines.specs.declared.Line.{Line}
 use Rattle.lines.specs.declared.Line.the-variants as line
 use Rattle.reading.proofs.Tags.{OtherLine, callTag, otherLines}
 use Rattle.orders.specs.Entering.{EntryNo, Known}
-use Rattle.session.specs.Appending.{Askable, ClosingNo}
+use Rattle.session.specs.Asking.{Askable, ClosingNo}
 use Rattle.commands.specs.Command.{Does, called, carried}
 use Rattle.commands.specs.Stand.{goesOn, room}
 

@@ -31,7 +31,7 @@ use Rattle.orders.specs.Finding.{OfSecurity, foundAt}
 use Rattle.orders.specs.Entering.{Enterable, Enters, fillableIn}
 use Rattle.orders.proofs.Cancelling.{cancel-carries, cancel-none, found-known, found-leaves}
 use Rattle.orders.proofs.Calling.{enterable, order-enters, refuse-whole, rules-known}
-use Rattle.session.specs.Appending.{Appendable, Appends}
+use Rattle.waiting.specs.Appending.{Appendable, Appends}
 use Rattle.session.proofs.Asking as closing
 use Rattle.calls.proofs.Lists.{any-list, cancel-listless, closing-listless}
 use Rattle.reserves.proofs.Moving.{movable}
@@ -84,7 +84,7 @@ module _ (says : Line) (ms : List Ticket) (r : Rules) (x : Phase) (m k : List �
       can-enter =
           let a = admits .2 in
           rw (admits .0, admits .1, a .row)
-          (enterable r x m k b ready (a .participant) (a .ticket) f l (omega (arith, lent)) none (a .entry) whole)
+          (enterable r x m k b ready (a .participant) (a .ticket) f l (omega (arith, lent)) none (a .entry) whole (a .matched))
 
       pub does-enter : (m″ k″ l″ : List ℕ) (b′ : OrderBook) → Enters w b e f m′ k′ l m″ k″ l″ b′
           → Line-does m″ k″ l″
@@ -94,7 +94,7 @@ module _ (says : Line) (ms : List Ticket) (r : Rules) (x : Phase) (m k : List �
           let a = admits .2 in
           rw (a .said)
           (does-call r x m k b l _ m″ k″ l″ _ ready lent
-          (order-enters r x m k b ready (a .participant) (a .ticket) f l (omega (arith, lent)) none (a .entry) whole m″ k″ l″ b′
+          (order-enters r x m k b ready (a .participant) (a .ticket) f l (omega (arith, lent)) none (a .entry) whole (a .matched) m″ k″ l″ b′
           (rw (admits .0, admits .1, a .row) at enters)))
 
   -- it is a cancellation by a known participant

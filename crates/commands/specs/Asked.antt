@@ -2,6 +2,7 @@
 use Prim.Native.Nat.{ℕ, _<_}
 use mathlib.Core.Path.{_≡_}
 use mathlib.Core.List.{List}
+use mathlib.Core.Bool.{false}
 use lib.ListN.{length}
 use Rattle.market.specs.declared.Order.{Order}
 use Rattle.market.specs.declared.OrderBook.{OrderBook}
@@ -16,13 +17,14 @@ use Rattle.market.specs.declared.Call.the-variants as call
 use Rattle.market.specs.Limits.{lentAtLeast}
 use Rattle.market.specs.Day.{row}
 use Rattle.market.specs.View.{dayOf}
+use Rattle.market.specs.Sound.{isCollecting}
 use Rattle.market.specs.Parts.{Ready}
 use Rattle.lines.specs.declared.Line.{Line}
 use Rattle.lines.specs.declared.Line.the-variants as line
 use Rattle.reserves.specs.Reserve.{Movable}
 use Rattle.orders.specs.Entering.{EntryNo, Known, entryWith}
-use Rattle.session.specs.Appending as closing
-use Rattle.session.specs.Appending.{ClosingNo, closingWith}
+use Rattle.session.specs.Asking as closing
+use Rattle.session.specs.Asking.{ClosingNo, closingWith}
 use Rattle.commands.specs.declared.Asked.{Asked}
 use Rattle.commands.specs.declared.Asked.the-variants as verdict
 use Rattle.commands.specs.Command.{Does, carried}
@@ -33,7 +35,7 @@ pub record Askable (r : Rules) (t : List Turnover) (codes : ℕ) (m k : List ℕ
   pub closing : closing.Askable r t codes
   pub movable : Movable r m k
 
--- an order whose questions 4 to 14 are answered "yes", as it enters
+-- an order whose questions 4 to 14 are answered "yes" while nothing is collected, as it enters
 pub record Admits (says : Line) (r : Rules) (x : Phase) (t : List Turnover) (count codes : ℕ) (m k : List ℕ) (e : Order)
     (l : Security) (f : TimeInForce) : Type 0 where
   pub participant : ℕ
@@ -41,6 +43,7 @@ pub record Admits (says : Line) (r : Rules) (x : Phase) (t : List Turnover) (cou
   pub said : says ≡ line.Call (call.Order participant ticket f)
   pub entry : e ≡ entryWith codes participant ticket
   pub row : l ≡ row r (ticket .security)
+  pub matched : isCollecting x ≡ false
   pub asked : EntryNo r x t count codes m k participant ticket f 0
 
 -- a closing order whose questions are all answered "yes", as it comes to wait

@@ -14,6 +14,7 @@ use market::Side;
 use market::Ticket;
 use market::TimeInForce;
 use market::Turnover;
+use market::is_collecting;
 use orders::Found;
 use orders::enter;
 use orders::entry_of;
@@ -25,9 +26,9 @@ use printing::put_trades;
 use reading::command_at;
 use reserves::answer_of;
 use reserves::moved;
-use session::append;
 use session::closing_no;
 use session::closing_order;
+use waiting::append;
 use waiting::leave;
 ghost use mathlib.Core.Path.{_≡_};
 ghost use mathlib.Core.List.{_++_};
@@ -38,7 +39,7 @@ ghost use Rattle.market.specs.Answers.{numbersOf};
 ghost use Rattle.lines.specs.declared.Line.the-variants as line;
 ghost use Rattle.market.specs.declared.Call.the-variants as call;
 ghost use Rattle.orders.specs.Entering.{Known};
-ghost use Rattle.session.specs.Appending.{Askable as ClosingAskable};
+ghost use Rattle.session.specs.Asking.{Askable as ClosingAskable};
 ghost use Rattle.printing.specs.Buffer.{Puts};
 ghost use Rattle.printing.specs.Lines.{answerLine, flatLines};
 ghost use Rattle.commands.specs.Stand.{Going, Runs, goesOn, room};
@@ -93,7 +94,7 @@ pub fn put_command(out: &mut [u8], at: usize, line: u64, answer: Answer, trades:
     }
 }
 
-// An order's questions 4 to 14.
+// An order's questions 4 to 14. While collecting, which no line of a day file begins, it is carried out as any other call.
 fn order_asked<'a>(
     rules: Rules,
     phase: Phase,
@@ -109,6 +110,9 @@ fn order_asked<'a>(
     requires { ⌜ Known rules codes ⌝ }
     ensures { λ r. ⌜ Asks (line.Call (call.Order participant ticket force)) rules phase turnovers count codes (now (money .entry)) (now (pieces .entry)) (now (money .entry)) (now (pieces .entry)) r ⌝ }
 {
+    if is_collecting(phase) {
+        return Asked::Other(Call::Order(participant, ticket, force));
+    }
     let number = order_no(
         rules,
         phase,

@@ -18,8 +18,8 @@ use soundness::lent_sound;
 ghost use mathlib.Core.Path.{_≡_};
 ghost use mathlib.Core.List.{[]};
 ghost use Rattle.market.specs.Day.{Money, Pieces};
-ghost use Rattle.market.specs.Calls.{cancel as cancelCall, closingOrder, decrease, endSession};
-ghost use Rattle.market.specs.Calls.{increase, linked as linkedCall, noTickets, order, startClosing};
+ghost use Rattle.market.specs.Calls.{cancel as cancelCall, closingOrder, decrease, endCollecting, endSession};
+ghost use Rattle.market.specs.Calls.{increase, linked as linkedCall, noTickets, order, startClosing, startCollecting};
 ghost use Rattle.market.specs.Parts.{callOf};
 ghost use Rattle.market.specs.Contract.{Does, Opens};
 
@@ -193,4 +193,17 @@ pub fn end_session(s: State, trades: &mut [u64]) -> Outcome
     ensures { λ r. ⌜ Does s (now (trades .entry)) endSession r (now (trades .exit)) ⌝ }
 {
     call(s, Call::EndSession, no_tickets(), trades)
+}
+
+pub fn start_collecting(s: State) -> Outcome
+    ensures { λ r. ⌜ Does s [] startCollecting r [] ⌝ }
+{
+    plain(s, Call::StartCollecting)
+}
+
+// The trades stand from the start of the lent list on.
+pub fn end_collecting(s: State, trades: &mut [u64]) -> Outcome
+    ensures { λ r. ⌜ Does s (now (trades .entry)) endCollecting r (now (trades .exit)) ⌝ }
+{
+    call(s, Call::EndCollecting, no_tickets(), trades)
 }

@@ -1,7 +1,7 @@
 -- `calls::carry_out` meets its contract, call by call.
 use borrow.Author.Needs.{needs}
 use Rattle.reserves.proofs.Moving.{movable}
-use Rattle.calls.proofs.Lists.{any-list, cancel-listless, closing-listless, start-listless}
+use Rattle.calls.proofs.Lists.{any-list, cancel-listless, closing-listless, collecting-listless, start-listless}
 use Rattle.calls.proofs.carry_out.Statement.{statement}
 use Rattle.calls.proofs.carry_out.Tie as tie
 
@@ -47,8 +47,20 @@ enter-closing-order-requires c κs = search needs
 enum-told-2 : tie.Need-enum-told-2
 enum-told-2 c = search needs
 
-end-session-requires : tie.Need-end-session-requires
-end-session-requires c κs = search needs
+end-requires : tie.Need-end-requires
+end-requires c κs = search needs
+
+enum-told-3 : tie.Need-enum-told-3
+enum-told-3 c = search needs
+
+start-collecting-requires : tie.Need-start-collecting-requires
+start-collecting-requires c κs = search needs
+
+enum-told-4 : tie.Need-enum-told-4
+enum-told-4 c = search needs
+
+end-requires-2 : tie.Need-end-requires-2
+end-requires-2 c κs = search needs
 
 returns : tie.Need-returns
 returns c =
@@ -92,7 +104,21 @@ same-length-3 c = search needs
 returns-7 : tie.Need-returns-7
 returns-7 c =
     let k = c .before .before in
-    rw (k .before .before .before .before .enum-told2 .given .1) (k .end-session .ensures)
+    rw (k .before .before .before .before .enum-told2 .given .1) (k .end .ensures)
+
+returns-8 : tie.Need-returns-8
+returns-8 c =
+    let k = c .before in
+    rw (k .enum-told3 .given .1)
+    (any-list _ _ _ _ _ _ _ collecting-listless _ _ _ (c .start-collecting .ensures _ _ _ (k .before .before .before .pre)))
+
+same-length-4 : tie.Need-same-length-4
+same-length-4 c = search needs
+
+returns-9 : tie.Need-returns-9
+returns-9 c =
+    let k = c .before .before in
+    rw (k .before .before .before .before .enum-told4 .given .1) (k .end2 .ensures)
 
 pub carry-out-spec : {M : Type 1} → statement M
 carry-out-spec =
@@ -112,7 +138,11 @@ carry-out-spec =
     enum-known-call-5
     enter-closing-order-requires
     enum-told-2
-    end-session-requires
+    end-requires
+    enum-told-3
+    start-collecting-requires
+    enum-told-4
+    end-requires-2
     returns
     same-length
     returns-2
@@ -122,4 +152,7 @@ carry-out-spec =
     returns-5
     returns-6
     same-length-3
-    returns-7)
+    returns-7
+    returns-8
+    same-length-4
+    returns-9)

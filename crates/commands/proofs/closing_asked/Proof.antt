@@ -6,7 +6,7 @@ use borrow.Author.Needs.{needs}
 use Rattle.market.specs.Limits.{maxSecurities}
 use Rattle.commands.specs.Command.{carried}
 use Rattle.calls.proofs.Lists.{any-list, closing-listless}
-use Rattle.session.specs.Appending.{ClosingNo}
+use Rattle.session.specs.Asking.{ClosingNo}
 use Rattle.session.proofs.Asking.{refuse}
 use Rattle.commands.proofs.Carrying.{closing-listed, closing-none, does-call}
 use Rattle.commands.proofs.closing_asked.Statement.{statement}
