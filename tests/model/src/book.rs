@@ -83,6 +83,8 @@ impl Book {
         }
         match call {
             Call::Cancel { participant, code } => self.take_off(*participant, *code),
+            Call::StartCollecting => self.phase = Phase::Collecting,
+            Call::EndCollecting => self.turn_to(Phase::Open),
             Call::StartClosing => self.turn_to(Phase::Closing),
             Call::EndSession => self.turn_to(Phase::Closed),
             _ => {}
@@ -177,6 +179,7 @@ impl Book {
             .retain(|order| order.code != code || order.participant as u64 != participant);
     }
 
+    /// All orders go with the phase that they waited in.
     fn turn_to(&mut self, phase: Phase) {
         self.waiting.clear();
         self.phase = phase;
@@ -239,6 +242,7 @@ impl Book {
     pub fn compare(&self, engine: &Engine) -> Checked {
         self.compare_phase(engine.phase())?;
         self.compare_waiting(engine.waiting())?;
+        self.check_uncrossed()?;
         for security in 0..self.securities.len() {
             self.compare_traded(security, engine.traded(security))?;
         }
@@ -254,6 +258,33 @@ impl Book {
     pub fn compare_waiting(&self, waiting: &[WaitingOrder]) -> Checked {
         expect(self.waiting == waiting, || {
             format!("waiting: book {:?}, state {waiting:?}", self.waiting)
+        })
+    }
+
+    /// In continuous trading no waiting buy reaches a waiting sell.
+    pub fn check_uncrossed(&self) -> Checked {
+        if self.phase != Phase::Open {
+            return Ok(());
+        }
+        for security in 0..self.securities.len() {
+            let dearest_buy = self.prices(Side::Buy, security).max();
+            let cheapest_sell = self.prices(Side::Sell, security).min();
+            if let (Some(buy), Some(sell)) = (dearest_buy, cheapest_sell) {
+                expect(buy < sell, || {
+                    format!("in {security} a buy waits at {buy}, a sell at {sell}")
+                })?;
+            }
+        }
+        Ok(())
+    }
+
+    /// The prices written on the orders that wait on one side of a security.
+    fn prices(&self, side: Side, security: usize) -> impl Iterator<Item = u64> + '_ {
+        let waiting = self.waiting.iter();
+        let of_side = waiting.filter(move |order| order.side == side && order.security == security);
+        of_side.filter_map(|order| match order.kind {
+            WaitingKind::Kept(price) => Some(price),
+            WaitingKind::Closing => None,
         })
     }
 

@@ -22,6 +22,7 @@ pub mod refusal {
     pub const SECURITY_LINE: u64 = 18;
     pub const MALFORMED: u64 = 19;
     pub const TEXT_TOO_LONG: u64 = 20;
+    pub const CODE_GIVEN: u64 = 21;
 }
 
 #[derive(Clone, Copy, PartialEq, Eq, Debug)]
@@ -40,6 +41,7 @@ pub enum EntryKind {
 #[derive(Clone, Copy, PartialEq, Eq, Debug)]
 pub enum Phase {
     Open,
+    Collecting,
     Closing,
     Closed,
 }
@@ -126,16 +128,21 @@ pub enum Call {
         participant: u64,
         members: Vec<Member>,
     },
+    StartCollecting,
+    EndCollecting,
     StartClosing,
     EnterClosing(ClosingEntry),
     EndSession,
 }
 
 impl Call {
-    /// Orders, groups and the session's end are lent a list for their trades.
-    /// A closing order writes none.
+    /// Orders, groups, the end of collecting and the session's end are lent a
+    /// list for their trades. A closing order writes none.
     pub fn writes_trades(&self) -> bool {
-        matches!(self, Call::Enter(_) | Call::Group { .. } | Call::EndSession)
+        matches!(
+            self,
+            Call::Enter(_) | Call::Group { .. } | Call::EndCollecting | Call::EndSession
+        )
     }
 }
 

@@ -22,7 +22,7 @@ impl Observer for Checker<'_> {
 
     fn called(&mut self, line: u64, call: &Call, answer: &Answer, trades: &[Trade]) {
         self.line = line;
-        self.tally.count_group(call, answer);
+        self.tally.count_call(call, answer);
         if let Some(book) = &mut self.book {
             let fed = book.feed(call, answer, trades);
             self.note(fed);

@@ -60,7 +60,7 @@ const LINES: [&str; 30] = [
 ];
 
 /// Words of scripts, in good form and in bad, of this level and of later ones.
-const SCRIPT_LINES: [&str; 40] = [
+const SCRIPT_LINES: [&str; 51] = [
     "SHOW",
     "SHOW",
     "SHOW",
@@ -85,7 +85,18 @@ const SCRIPT_LINES: [&str; 40] = [
     "LENT,",
     "lent,0",
     "COLLECT",
+    "COLLECT",
+    "COLLECT",
+    "COLLECT,",
+    "COLLECT,0",
+    "COLLECTS",
+    "COLLEC",
+    "collect",
     "AUCTION",
+    "AUCTION",
+    "AUCTION,",
+    "AUCTION,1",
+    "AUCTIO",
     "OFFER,0,B,0,100,1,500,7",
     "SECOND,1",
     "DAY,60",
@@ -101,6 +112,16 @@ const SCRIPT_LINES: [&str; 40] = [
     "H,1,1,1,0",
     "S,0,10,5,0",
     "PHASE,open",
+];
+
+/// Kept orders that the reserves of the short day allow, and which cross.
+const KEPT_LINES: [&str; 6] = [
+    "B,0,0,100,1,K",
+    "B,0,0,105,2,K",
+    "B,0,0,110,1,K",
+    "L,1,0,95,1,K",
+    "L,1,0,100,2,K",
+    "L,1,0,105,1,K",
 ];
 
 /// Headings in the forms of later levels.
@@ -411,13 +432,22 @@ fn later_heading(random: &mut Random) -> Vec<u8> {
     text
 }
 
-/// A good heading, and then lines of day files and scripts without sense.
+/// A good heading, and then lines of day files and scripts without sense, at
+/// times orders among them.
 fn random_script_lines(random: &mut Random) -> Vec<u8> {
     let mut text = SHORT_DAY.to_vec();
+    let orders_percent = random.pick(&[0, 2, 10, 30]);
     for _ in 0..random.within(1, 200) {
         let of_script = random.pick(&SCRIPT_LINES);
         let of_day = random.pick(&LINES);
-        line(&mut text, random.pick(&[of_script, of_day]));
+        let order = random.pick(&KEPT_LINES);
+        let has_order = random.chance(orders_percent);
+        let lines = if has_order {
+            [order, order]
+        } else {
+            [of_script, of_day]
+        };
+        line(&mut text, random.pick(&lines));
     }
     text
 }

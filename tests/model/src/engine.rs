@@ -1,11 +1,15 @@
 //! The engine: one trading day's state and the calls that change it.
 //! A refused call changes nothing.
 
+mod auction;
 mod closing;
+mod pairing;
 mod positions;
 mod questions;
 mod soundness;
 mod trading;
+
+use pairing::all_paired;
 
 use crate::calls::{
     refusal, refused, Answer, Call, ClosingEntry, Done, Entry, Member, Movement, Opening, Phase,
@@ -202,6 +206,8 @@ impl Engine {
                 participant,
                 members,
             } => self.enter_group(*participant, members, trades),
+            Call::StartCollecting => self.start_collecting(),
+            Call::EndCollecting => self.end_collecting(trades),
             Call::StartClosing => self.start_closing(),
             Call::EnterClosing(entry) => self.enter_closing(entry),
             Call::EndSession => self.end_session(trades),
@@ -299,6 +305,27 @@ impl Engine {
             })
     }
 
+    /// Whatever became of its order, a code that was given counts.
+    pub fn start_collecting(&mut self) -> Answer {
+        self.ask_soundness()?;
+        ensure(self.state.phase == Phase::Open, refusal::PHASE)?;
+        ensure(self.state.codes_given == 0, refusal::CODE_GIVEN)?;
+        self.state.phase = Phase::Collecting;
+        Ok(Done::default())
+    }
+
+    pub fn end_collecting(&mut self, trades: &mut Vec<Trade>) -> Answer {
+        self.ask_soundness()?;
+        ensure(self.state.phase == Phase::Collecting, refusal::PHASE)?;
+        let earlier_trades = trades.len();
+        for security in 0..self.market.securities.len() {
+            self.pair_auction(security, trades);
+        }
+        self.take_all_off();
+        self.state.phase = Phase::Open;
+        Ok(all_paired(&trades[earlier_trades..]))
+    }
+
     pub fn start_closing(&mut self) -> Answer {
         self.ask_soundness()?;
         ensure(self.state.phase == Phase::Open, refusal::PHASE)?;
@@ -329,11 +356,6 @@ impl Engine {
         }
         self.take_all_off();
         self.state.phase = Phase::Closed;
-        let written = &trades[earlier_trades..];
-        Ok(Done {
-            filled: written.iter().map(|trade| trade.lots).sum(),
-            trades: written.len() as u64,
-            ..Done::default()
-        })
+        Ok(all_paired(&trades[earlier_trades..]))
     }
 }

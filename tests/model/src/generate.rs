@@ -1,6 +1,7 @@
 //! Seeded day files and scripts. A shadow engine runs beside the writing, so
 //! that exact amounts, fitting lots and waiting codes can be aimed at.
 
+mod collecting;
 mod day;
 mod groups;
 mod script;
@@ -38,9 +39,11 @@ struct Plan {
     ending_at: usize,
     lend_percent: u64,
     show_percent: u64,
+    collect_percent: u64,
+    phase_calls: u64,
 }
 
-/// A day file lends nothing and shows nothing of its own.
+/// A day file lends nothing, shows nothing of its own and knows no collecting.
 const SENSIBLE: Plan = Plan {
     length: 2_000,
     orders: 60,
@@ -57,11 +60,15 @@ const SENSIBLE: Plan = Plan {
     ending_at: NEVER,
     lend_percent: 0,
     show_percent: 0,
+    collect_percent: 0,
+    phase_calls: 0,
 };
 
 const SCRIPTED: Plan = Plan {
     lend_percent: 3,
     show_percent: 2,
+    collect_percent: 60,
+    phase_calls: 1,
     ..SENSIBLE
 };
 
@@ -71,12 +78,22 @@ pub fn day_file(seed: u64) -> Vec<u8> {
 }
 
 /// The script of a seed: mostly a day with words of scripts among its calls,
-/// at times with such words put in anywhere, or one that never was good.
+/// often one with an auction before trading opens; at times with such words
+/// put in anywhere, or one that never was good.
 pub fn script(seed: u64) -> Vec<u8> {
     let mut random = Random::new(!seed);
     match random.below(16) {
         0 => damage::script_oddity(&mut random),
-        1..=4 => damage::with_script_lines(&mut random, text(seed, SCRIPTED)),
+        1..=3 => damage::with_script_lines(&mut random, text(seed, SCRIPTED)),
+        4 => {
+            let text = auction_day(Random::new(random.number()));
+            damage::with_script_lines(&mut random, text)
+        }
+        5 => {
+            let text = auction_day(Random::new(random.number()));
+            damage::damaged(&mut random, text)
+        }
+        6..=10 => auction_day(random),
         _ => text(seed, SCRIPTED),
     }
 }
@@ -178,6 +195,19 @@ fn group_day(mut random: Random, usual: Plan) -> Vec<u8> {
         kept_percent: 90,
         crossing_percent: 20,
         ..usual
+    };
+    let plan = with_closing(&mut random, plan);
+    let opening = opening(&mut random, 6);
+    Day::new(random, plan, opening).write()
+}
+
+/// A day that begins with collecting, long enough to fill the book at times.
+fn auction_day(mut random: Random) -> Vec<u8> {
+    let plan = Plan {
+        length: random.within(800, 9_000) as usize,
+        buy_percent: random.pick(&[30, 50, 50, 50, 70]),
+        collect_percent: 100,
+        ..SCRIPTED
     };
     let plan = with_closing(&mut random, plan);
     let opening = opening(&mut random, 6);

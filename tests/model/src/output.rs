@@ -87,6 +87,7 @@ fn print_position(
 fn phase_word(phase: Phase) -> &'static [u8] {
     match phase {
         Phase::Open => b"open",
+        Phase::Collecting => b"collecting",
         Phase::Closing => b"closing",
         Phase::Closed => b"closed",
     }

@@ -37,6 +37,7 @@ impl<const COUNT: usize> Line<'_, COUNT> {
     fn phase(&self, place: usize) -> Option<Phase> {
         match self.fields[place] {
             b"open" => Some(Phase::Open),
+            b"collecting" => Some(Phase::Collecting),
             b"closing" => Some(Phase::Closing),
             b"closed" => Some(Phase::Closed),
             _ => None,
@@ -360,5 +361,6 @@ fn check_waiting(fed: &Fed, printed: &mut Printed) -> Checked {
     let count = fed.book.orders_waiting();
     let waiting: Result<Vec<WaitingOrder>, String> =
         (0..count).map(|_| printed.waiting_order()).collect();
-    fed.book.compare_waiting(&waiting?)
+    fed.book.compare_waiting(&waiting?)?;
+    fed.book.check_uncrossed()
 }

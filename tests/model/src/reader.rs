@@ -253,6 +253,8 @@ fn call<const LEVEL: u8>(word: &[u8], fields: &mut Fields) -> Option<Call> {
         (b"B", 0..) => Call::Enter(entry(Side::Buy, fields)?),
         (b"L", 0..) => Call::Enter(entry(Side::Sell, fields)?),
         (b"X", 0..) => cancel(fields)?,
+        (b"COLLECT", 2..) => Call::StartCollecting,
+        (b"AUCTION", 2..) => Call::EndCollecting,
         (b"C", 0..) => Call::StartClosing,
         (b"P", 0..) => Call::EnterClosing(closing_entry(fields)?),
         (b"Z", 0..) => Call::EndSession,

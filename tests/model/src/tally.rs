@@ -5,7 +5,7 @@ use std::fmt;
 
 use crate::calls::{Answer, Call};
 
-const MOST_REFUSALS: usize = 21;
+const MOST_REFUSALS: usize = 22;
 
 #[derive(Default)]
 pub struct Tally {
@@ -17,6 +17,10 @@ pub struct Tally {
     pub groups_refused: u64,
     /// Groups refused at a later member, after earlier ones had traded.
     pub groups_undone: u64,
+    /// Accepted ends of collecting; those that traded, and their trades.
+    pub auctions: u64,
+    pub auctions_trading: u64,
+    pub auction_trades: u64,
     refusals: [u64; MOST_REFUSALS],
     /// How often each phase was shown; day files show none.
     phases: BTreeMap<String, u64>,
@@ -31,10 +35,22 @@ impl Tally {
         self.phases.get(phase).copied().unwrap_or(0)
     }
 
-    pub fn count_group(&mut self, call: &Call, answer: &Answer) {
-        if !matches!(call, Call::Group { .. }) {
-            return;
+    /// Counts what the output alone doesn't tell.
+    pub fn count_call(&mut self, call: &Call, answer: &Answer) {
+        match (call, answer) {
+            (Call::Group { .. }, _) => self.count_group(answer),
+            (Call::EndCollecting, Ok(done)) => self.count_auction(done.trades),
+            _ => {}
         }
+    }
+
+    fn count_auction(&mut self, trades: u64) {
+        self.auctions += 1;
+        self.auctions_trading += u64::from(trades > 0);
+        self.auction_trades += trades;
+    }
+
+    fn count_group(&mut self, answer: &Answer) {
         match answer {
             Ok(_) => self.groups_accepted += 1,
             Err(refused) => {
@@ -84,6 +100,13 @@ impl fmt::Display for Tally {
             "  groups accepted {}, refused {} ({} after earlier members had traded)",
             self.groups_accepted, self.groups_refused, self.groups_undone
         )?;
+        if self.auctions > 0 {
+            writeln!(
+                out,
+                "  auctions {}, of which {} traded ({} trades)",
+                self.auctions, self.auctions_trading, self.auction_trades
+            )?;
+        }
         write!(out, "  refusals (number: count)")?;
         for (number, count) in self.refusals.iter().enumerate().skip(1) {
             if *count > 0 {

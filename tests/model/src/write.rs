@@ -1,4 +1,4 @@
-//! Writes the heading and calls as lines of a day file.
+//! Writes the heading and calls as lines of a day file or a script.
 
 use crate::calls::{Call, ClosingEntry, Entry, EntryKind, Member, Movement, Opening, Side};
 
@@ -31,6 +31,8 @@ pub fn write_call(call: &Call, text: &mut Vec<u8>) {
             participant,
             members,
         } => write_group(*participant, members, text),
+        Call::StartCollecting => line(text, "COLLECT"),
+        Call::EndCollecting => line(text, "AUCTION"),
         Call::StartClosing => line(text, "C"),
         Call::EnterClosing(entry) => write_closing_entry(entry, text),
         Call::EndSession => line(text, "Z"),

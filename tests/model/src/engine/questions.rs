@@ -40,7 +40,7 @@ impl Engine {
     pub(super) fn question_entry(&self, entry: &Entry) -> Result<WaitingOrder, Refused> {
         let participant = self.known_participant(entry.participant)?;
         let security = self.known_security(entry.security)?;
-        ensure(self.state.phase == Phase::Open, refusal::PHASE)?;
+        ensure(self.phase_admits(entry.kind), refusal::PHASE)?;
         ensure((1..=LOTS_LIMIT).contains(&entry.lots), refusal::AMOUNT)?;
         let line = &self.market.securities[security];
         ensure(price_allowed(line, entry.price), refusal::PRICE)?;
@@ -61,6 +61,14 @@ impl Engine {
             ensure(fitting >= entry.lots, refusal::NOT_FILLABLE)?;
         }
         Ok(order)
+    }
+
+    fn phase_admits(&self, kind: EntryKind) -> bool {
+        match self.state.phase {
+            Phase::Open => true,
+            Phase::Collecting => kind == EntryKind::Kept,
+            Phase::Closing | Phase::Closed => false,
+        }
     }
 
     /// Questions 4 to 14 of a closing order, which has no price.

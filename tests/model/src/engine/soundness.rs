@@ -68,7 +68,7 @@ impl Engine {
     fn kind_sound(&self, order: &WaitingOrder) -> bool {
         match order.kind {
             WaitingKind::Kept(price) => {
-                self.state.phase == Phase::Open
+                matches!(self.state.phase, Phase::Open | Phase::Collecting)
                     && price_allowed(&self.market.securities[order.security], price)
             }
             WaitingKind::Closing => {

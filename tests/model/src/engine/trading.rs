@@ -2,7 +2,7 @@
 
 use super::{Engine, PRICE_LIMIT};
 use crate::calls::{
-    Answer, Done, Entry, EntryKind, Member, Refused, Side, Trade, WaitingKind, WaitingOrder,
+    Answer, Done, Entry, EntryKind, Member, Phase, Refused, Side, Trade, WaitingKind, WaitingOrder,
 };
 
 /// A waiting order's price as the entry sees it: the lower, the better, and it
@@ -15,12 +15,15 @@ fn cost(entry_side: Side, price: u64) -> u64 {
 }
 
 impl Engine {
+    /// While collecting the order only waits.
     pub(super) fn admit(&mut self, entry: &Entry, trades: &mut Vec<Trade>) -> Answer {
         let mut order = self.question_entry(entry)?;
         self.block(&order);
         self.state.codes_given = order.code;
         let earlier_trades = trades.len();
-        self.match_order(&mut order, entry.price, trades);
+        if self.state.phase == Phase::Open {
+            self.match_order(&mut order, entry.price, trades);
+        }
         let filled = entry.lots - order.lots;
         let mut left = 0;
         if order.lots > 0 && entry.kind == EntryKind::Kept {

@@ -1,5 +1,6 @@
 //! The course of a generated day.
 
+use super::collecting::Collecting;
 use super::Plan;
 use crate::calls::{Call, Movement, Opening, Phase};
 use crate::engine::{Engine, LIST_LENGTH, MONEY_LIMIT, PIECES_LIMIT, PRICE_LIMIT};
@@ -19,6 +20,7 @@ pub(super) struct Day {
     pub(super) base_steps: Vec<u64>,
     /// Numbers lent to the next call.
     pub(super) lent: u64,
+    pub(super) collecting: Collecting,
 }
 
 impl Day {
@@ -38,11 +40,16 @@ impl Day {
             engine,
             base_steps,
             lent: LIST_LENGTH,
+            collecting: Collecting::default(),
         }
     }
 
+    /// Where collecting is planned, it mostly begins after the reserves.
     pub(super) fn write(mut self) -> Vec<u8> {
+        let percent = self.plan.collect_percent;
+        self.begin_collecting(percent / 8);
         self.write_reserves();
+        self.begin_collecting(percent);
         while self.has_room() {
             self.write_next();
         }
@@ -57,6 +64,8 @@ impl Day {
     fn write_next(&mut self) {
         let length = self.text.len();
         match self.engine.phase() {
+            Phase::Collecting if self.collected() => self.add(Call::EndCollecting),
+            Phase::Collecting => self.write_collecting(),
             Phase::Open if length >= self.plan.closing_at => self.add(Call::StartClosing),
             Phase::Closing if length >= self.plan.ending_at => self.add(Call::EndSession),
             Phase::Open => self.write_trading(),
@@ -122,6 +131,7 @@ impl Day {
             plan.groups,
             plan.movements,
             plan.spoiled,
+            plan.phase_calls,
         ];
         match self.weighted(&weights) {
             0 => self.write_order(),
@@ -130,7 +140,8 @@ impl Day {
             3 => self.write_cancel(),
             4 => self.write_group(),
             5 => self.write_movement(),
-            _ => self.write_spoiled(),
+            6 => self.write_spoiled(),
+            _ => self.write_phase_call(),
         }
     }
 
@@ -146,7 +157,7 @@ impl Day {
     }
 
     fn write_closing(&mut self) {
-        match self.weighted(&[70, 8, 8, 3, 2, 5, 1]) {
+        match self.weighted(&[70, 8, 8, 3, 2, 5, 1, self.plan.phase_calls]) {
             0 => {
                 let entry = self.closing_entry();
                 self.add(Call::EnterClosing(entry));
@@ -156,19 +167,21 @@ impl Day {
             3 => self.write_order(),
             4 => self.write_group(),
             5 => self.write_spoiled(),
-            _ => self.add(Call::StartClosing),
+            6 => self.add(Call::StartClosing),
+            _ => self.write_phase_call(),
         }
     }
 
     fn write_closed(&mut self) {
-        match self.weighted(&[3, 3, 3, 1, 1, 1, 3]) {
+        match self.weighted(&[3, 3, 3, 1, 1, 1, 3, self.plan.phase_calls]) {
             0 => self.write_order(),
             1 => self.write_cancel(),
             2 => self.write_movement(),
             3 => self.write_group(),
             4 => self.add(Call::StartClosing),
             5 => self.add(Call::EndSession),
-            _ => self.write_spoiled(),
+            6 => self.write_spoiled(),
+            _ => self.write_phase_call(),
         }
     }
 }

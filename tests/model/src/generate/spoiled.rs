@@ -119,6 +119,8 @@ fn numbers_of(call: &mut Call) -> Vec<&mut u64> {
             }
             numbers
         }
-        Call::StartClosing | Call::EndSession => Vec::new(),
+        Call::StartCollecting | Call::EndCollecting | Call::StartClosing | Call::EndSession => {
+            Vec::new()
+        }
     }
 }
