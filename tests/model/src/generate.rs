@@ -201,16 +201,17 @@ fn group_day(mut random: Random, usual: Plan) -> Vec<u8> {
     Day::new(random, plan, opening).write()
 }
 
-/// A day that begins with collecting, long enough to fill the book at times.
+/// A day that begins with collecting, long enough to fill the book at times,
+/// and often with so many securities that few orders wait in each.
 fn auction_day(mut random: Random) -> Vec<u8> {
     let plan = Plan {
-        length: random.within(800, 9_000) as usize,
+        length: random.within(2_000, 9_000) as usize,
         buy_percent: random.pick(&[30, 50, 50, 50, 70]),
         collect_percent: 100,
         ..SCRIPTED
     };
     let plan = with_closing(&mut random, plan);
-    let opening = opening(&mut random, 6);
+    let opening = auction_opening(&mut random);
     Day::new(random, plan, opening).write()
 }
 
@@ -267,6 +268,18 @@ fn opening(random: &mut Random, most_participants: u64) -> Opening {
     let count = random.within(1, most_securities);
     Opening {
         participants: random.within(1, most_participants),
+        currencies,
+        securities: (0..count)
+            .map(|_| security_line(random, currencies))
+            .collect(),
+    }
+}
+
+fn auction_opening(random: &mut Random) -> Opening {
+    let currencies = random.within(1, 2);
+    let count = random.pick(&[1, 2, 4, 8, SECURITY_LIMIT]);
+    Opening {
+        participants: random.within(1, 3),
         currencies,
         securities: (0..count)
             .map(|_| security_line(random, currencies))

@@ -90,3 +90,67 @@ fn faulty_outputs_of_scripts_are_found() {
         assert!(altered_script(line, by).is_err(), "{line} replaced by {by}");
     }
 }
+
+/// Crossing orders wait where the lines of the end are shown; then the auction
+/// trades 2 of the buy's 3 lots at 95, the lower of two prices.
+const AUCTION_TEXT: &str = "H,1,1,1\nS,0,10,5\nR,0,0,30000\nD,0,0,200\nCOLLECT\n\
+                            B,0,0,100,3,K\nL,0,0,95,2,K\nSHOW\nAUCTION\n";
+
+fn altered_auction(line: &str, by: &str) -> Result<(), String> {
+    let output = script_output(AUCTION_TEXT.as_bytes());
+    let output = String::from_utf8_lossy(&output);
+    assert!(output.contains(line), "{line} is part of {output}");
+    let altered = output.replacen(line, by, 1);
+    check_printed::<SCRIPT>(AUCTION_TEXT.as_bytes(), altered.as_bytes())
+}
+
+#[test]
+fn the_auction_adds_up() {
+    assert_eq!(altered_auction("CODES,2\n", "CODES,2\n"), Ok(()));
+}
+
+/// The last ones are orders left over after the auction, trades in Q and T,
+/// and a phase that goes on.
+#[test]
+fn faulty_outputs_of_an_auction_are_found() {
+    let faults = [
+        ("A,5,0,0,0,0,0,0\n", "A,5,21,0,0,0,0,0\n"),
+        ("A,9,0,0,0,2,0,1\n", "A,9,0,0,0,3,0,1\n"),
+        ("A,9,0,0,0,2,0,1\n", "A,9,2,0,0,0,0,0\n"),
+        ("M,0,0,27000,3000\n", "M,0,0,30000,0\n"),
+        ("PHASE,collecting\n", "PHASE,open\n"),
+        ("WAITS,0,1,B,0,3,K,100\n", "WAITS,0,1,B,0,1,K,100\n"),
+        ("T,1,2,0,0,0,95,2,1900\n", "T,1,2,0,0,0,95,2,2000\n"),
+        ("PHASE,open\n", "PHASE,collecting\n"),
+        (
+            "PHASE,open\nTURNOVER,0,0,0\n",
+            "PHASE,open\nTURNOVER,0,20,1900\n",
+        ),
+        (
+            "PHASE,open\nTURNOVER,0,0,0\nCODES,2\n",
+            "PHASE,open\nTURNOVER,0,0,0\nCODES,2\nWAITS,0,1,B,0,1,K,100\n",
+        ),
+        ("M,0,0,30000,0\n", "M,0,0,29000,1000\n"),
+    ];
+    for (line, by) in faults {
+        assert!(
+            altered_auction(line, by).is_err(),
+            "{line} replaced by {by}"
+        );
+    }
+}
+
+/// While open no waiting buy reaches a waiting sell: here the buy, shown as
+/// if it had waited beside the sell that it meets.
+#[test]
+fn crossing_orders_while_open_are_found() {
+    let text = "H,1,1,1\nS,0,10,5\nR,0,0,1000\nD,0,0,10\nL,0,0,95,1,K\nB,0,0,100,1,K\n";
+    let output = "A,1,0,0,0,0,0,0\nA,3,0,0,0,0,0,0\nA,4,0,0,0,0,0,0\nA,5,0,0,1,0,1,0\n\
+                  A,6,0,0,2,0,1,0\nM,0,0,0,1000\nQ,0,0,0,10\nPHASE,open\nTURNOVER,0,0,0\n\
+                  CODES,2\nWAITS,0,1,L,0,1,K,95\nWAITS,0,2,B,0,1,K,100\n";
+    let found = check_printed::<SCRIPT>(text.as_bytes(), output.as_bytes());
+    assert_eq!(
+        found,
+        Err("in 0 a buy waits at 100, a sell at 95".to_string())
+    );
+}

@@ -15,14 +15,18 @@ fn every_refusal_and_phase_within_reach_is_reached() -> Result<(), String> {
         checked_output::<SCRIPT>(&script(seed), &mut tally)
             .map_err(|fault| format!("seed {seed}: {fault}"))?;
     }
-    for refusal in (2..=12).chain(14..=20) {
+    for refusal in (2..=12).chain(14..=21) {
         assert!(tally.refusals(refusal) > 0, "refusal {refusal}");
     }
     for refusal in [1, 13] {
         assert_eq!(tally.refusals(refusal), 0, "refusal {refusal}");
     }
-    for phase in ["open", "closing", "closed"] {
+    for phase in ["open", "collecting", "closing", "closed"] {
         assert!(tally.shown(phase) > 0, "{phase}");
     }
+    let (auctions, trading) = (tally.auctions, tally.auctions_trading);
+    assert!(auctions > SCRIPTS / 2, "{auctions} auctions");
+    assert!(trading > SCRIPTS / 3, "{trading} auctions that traded");
+    assert!(auctions > trading, "auctions without a trade");
     Ok(())
 }

@@ -1,6 +1,8 @@
 //! Scripts whose output was reasoned by hand from the scope paper and the
 //! format of scripts.
 
+mod common;
+
 use model::cases::cases;
 use model::check::checked_output;
 use model::dayfile::{output_of, script_output};
@@ -9,19 +11,7 @@ use model::level::SCRIPT;
 use model::reader::TEXT_LIMIT;
 use model::tally::Tally;
 
-/// The text of the lines, and what they print once the book agrees with it.
-fn printed(lines: &[&str]) -> String {
-    let text = lines.join("\n") + "\n";
-    let output = checked_output::<SCRIPT>(text.as_bytes(), &mut Tally::default());
-    let output = output.unwrap_or_else(|fault| panic!("{fault} in\n{text}"));
-    String::from_utf8(output).expect("the output is of plain letters")
-}
-
-fn assert_prints(lines: &[&str], expected: &[&str]) {
-    let printed = printed(lines);
-    let printed: Vec<&str> = printed.lines().collect();
-    assert_eq!(printed, expected);
-}
+use common::{answers, assert_prints, assert_refusals, printed};
 
 /// One participant's day, with nothing in it yet: two lines.
 const HEADING: [&str; 2] = ["H,1,1,1", "S,0,10,5"];
@@ -34,28 +24,6 @@ const NOTHING: [&str; 5] = [
     "TURNOVER,0,0,0",
     "CODES,0",
 ];
-
-/// The answers that the lines get after a good heading, without its own.
-fn answers(heading: &[&str], lines: &[&str]) -> Vec<String> {
-    let printed = printed(&[heading, lines].concat());
-    let answers = printed.lines().filter(|line| line.starts_with("A,"));
-    answers.skip(1).map(String::from).collect()
-}
-
-/// Each line after a good heading, with the refusal it gets or 0.
-fn assert_refusals(heading: &[&str], expected: &[(&str, u64)]) {
-    let lines: Vec<&str> = expected.iter().map(|(line, _)| *line).collect();
-    let answers = answers(heading, &lines);
-    assert_eq!(answers.len(), lines.len());
-    let refusals = answers.iter().map(|answer| refusal_of(answer));
-    let found: Vec<(&str, u64)> = lines.into_iter().zip(refusals).collect();
-    assert_eq!(found, expected);
-}
-
-fn refusal_of(answer: &str) -> u64 {
-    let field = answer.split(',').nth(2).expect("answers have eight fields");
-    field.parse().expect("the refusal is a number")
-}
 
 /// The paper's day, which ends with nothing waiting: 10 lots of 10 at 95 and
 /// 5 at 100 traded, and the refused order of line 7 took no code.

@@ -43,7 +43,7 @@ impl Day {
         Collecting {
             ends_at: self.random.pick(&[ends_at, length + room, length + room]),
             most_orders: self.random.pick(&[2, 4, 8, 20, 60, 128, 128, NEVER]),
-            prices: self.random.pick(&[1, 2, 3, 4, 6, 9, 60, PRICE_LIMIT]),
+            prices: self.random.pick(&[2, 3, 4, 6, 9, 15, 60, PRICE_LIMIT]),
             most_lots: self.random.pick(&[1, 2, 3, 5, 20]),
         }
     }

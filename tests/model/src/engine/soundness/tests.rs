@@ -3,7 +3,7 @@
 
 use crate::calls::{
     refusal, refused, Call, ClosingEntry, Entry, EntryKind, Movement, Opening, Phase, SecurityLine,
-    Side, WaitingKind,
+    Side, Trade, WaitingKind,
 };
 use crate::engine::{Engine, CODE_LIMIT, LIST_LENGTH, MONEY_LIMIT, PIECES_LIMIT};
 
@@ -28,13 +28,17 @@ fn movement(participant: u64, amount: u64) -> Movement {
 
 fn run(engine: &mut Engine, calls: &[Call]) {
     for call in calls {
-        let answer = engine.call(call, &mut Vec::new());
-        assert!(answer.is_ok(), "{call:?}: {answer:?}");
+        run_into(engine, call, &mut Vec::new());
     }
 }
 
-/// Two securities of lot 10 and step 5; one trade, and two orders waiting.
-fn trading() -> Engine {
+fn run_into(engine: &mut Engine, call: &Call, trades: &mut Vec<Trade>) {
+    let answer = engine.call(call, trades);
+    assert!(answer.is_ok(), "{call:?}: {answer:?}");
+}
+
+/// Two securities of lot 10 and step 5, money for 0 and pieces for 1.
+fn opened() -> Engine {
     let line = SecurityLine {
         currency: 0,
         lot_size: 10,
@@ -46,12 +50,33 @@ fn trading() -> Engine {
         securities: vec![line, line],
     };
     let mut engine = Engine::open(&opening, true).expect("the opening is in range");
-    let calls = [
+    let reserves = [
         Call::MoneyUp(movement(0, 1_000_000)),
         Call::PiecesUp(movement(1, 1_000)),
+    ];
+    run(&mut engine, &reserves);
+    engine
+}
+
+/// One trade, and two orders waiting.
+fn trading() -> Engine {
+    let mut engine = opened();
+    let calls = [
         entry(1, Side::Sell, 100, 10),
         entry(0, Side::Buy, 100, 12),
         entry(1, Side::Sell, 105, 3),
+    ];
+    run(&mut engine, &calls);
+    engine
+}
+
+/// Two orders that cross wait.
+fn collecting() -> Engine {
+    let mut engine = opened();
+    let calls = [
+        Call::StartCollecting,
+        entry(1, Side::Sell, 95, 10),
+        entry(0, Side::Buy, 100, 12),
     ];
     run(&mut engine, &calls);
     engine
@@ -147,6 +172,62 @@ fn waiting_orders() {
             }),
         ],
     );
+}
+
+/// Q, T and codes aren't tied to the phase.
+#[test]
+fn orders_while_collecting() {
+    assert_each_unsound(
+        collecting,
+        &[
+            ("price off the step", |it| {
+                it.state.waiting[1].kind = WaitingKind::Kept(101)
+            }),
+            ("closing order while collecting", |it| {
+                it.state.waiting[1].kind = WaitingKind::Closing
+            }),
+            ("kept orders while closing", |it| {
+                it.state.phase = Phase::Closing
+            }),
+            ("money blocked at another price", |it| {
+                it.state.money[0][0].blocked -= 600
+            }),
+            ("codes below those waiting", |it| it.state.codes_given = 1),
+        ],
+    );
+    let mut engine = trading();
+    engine.state.phase = Phase::Collecting;
+    assert!(engine.is_sound());
+}
+
+/// 1 before 2, 6 and 21, for both calls.
+#[test]
+fn start_and_end_of_collecting_ask_question_1() {
+    let breaks = |engine: &mut Engine| engine.state.money[0][0].blocked += 1;
+    for start in [opened, collecting, trading, closing] {
+        let mut engine = start();
+        breaks(&mut engine);
+        let before = engine.clone();
+        for call in [Call::StartCollecting, Call::EndCollecting] {
+            let answer = engine.call_lent(&call, LIST_LENGTH - 1, &mut Vec::new());
+            assert_eq!(answer, Err(refused(refusal::UNSOUND)), "{call:?}");
+        }
+        assert!(engine == before, "a refusal changes nothing");
+    }
+}
+
+/// 13 comes after 6 and before 14, while collecting too.
+#[test]
+fn codes_are_used_up_while_collecting() {
+    let mut engine = collecting();
+    engine.state.codes_given = CODE_LIMIT;
+    let unpaid = engine.call(&entry(1, Side::Buy, 1_000_000, 10_000), &mut Vec::new());
+    assert_eq!(unpaid, Err(refused(refusal::CODES_USED_UP)));
+    let mut trades = Vec::new();
+    run_into(&mut engine, &Call::EndCollecting, &mut trades);
+    assert_eq!(trades.len(), 1);
+    let start = engine.call(&Call::StartCollecting, &mut Vec::new());
+    assert_eq!(start, Err(refused(refusal::CODE_GIVEN)));
 }
 
 #[test]
