@@ -1,11 +1,12 @@
-//! Speed of the engine beside the model, on the same day files in one run.
-//! Times are medians of processor time, and include the reading of the lines
+//! Speed of the engine beside the model, on the same day files in one run, and
+//! on scripts for what day files don't know. Times are medians of processor time, and include the reading of the lines
 //! and the printing of the answers in both.
 
 use std::hint::black_box;
 
-use model::dayfile::{output_of, run_day};
+use model::dayfile::{output_of, run_day, run_text, script_output};
 use model::generate::good_long_day;
+use model::level::SCRIPT;
 use model::tally::Tally;
 
 use crate::clock::processor_time;
@@ -32,10 +33,15 @@ const SUBJECTS: [Subject; 4] = [
     },
 ];
 
+/// Those of scripts, in the order of the last columns: the state is tested at
+/// run time before each call.
+const SCRIPT_SUBJECTS: [Subject; 2] = [Subject::Engine(Form::Script), Subject::ModelOnScript];
+
 #[derive(Clone, Copy)]
 enum Subject {
     Engine(Form),
     Model { asks_soundness: bool },
+    ModelOnScript,
 }
 
 /// Seconds of each subject.
@@ -55,6 +61,11 @@ impl Runner {
                 run_day(text, asks_soundness, &mut (), &mut self.model_output);
                 Ok(&self.model_output)
             }
+            Subject::ModelOnScript => {
+                self.model_output.clear();
+                run_text::<SCRIPT>(text, true, &mut (), &mut self.model_output);
+                Ok(&self.model_output)
+            }
         }
     }
 
@@ -68,16 +79,17 @@ impl Runner {
     }
 
     /// Median seconds for each text, texts and subjects taking turns.
-    fn measure(
+    fn measure<const COUNT: usize>(
         &mut self,
+        subjects: [Subject; COUNT],
         texts: &[&[u8]],
         rounds: usize,
         repeats: usize,
-    ) -> Result<Vec<Times>, String> {
-        let mut samples = vec![[const { Vec::new() }; SUBJECTS.len()]; texts.len()];
+    ) -> Result<Vec<[f64; COUNT]>, String> {
+        let mut samples = vec![[const { Vec::new() }; COUNT]; texts.len()];
         for _ in 0..rounds {
             for (text, of_text) in texts.iter().zip(&mut samples) {
-                for (subject, times) in SUBJECTS.into_iter().zip(of_text) {
+                for (subject, times) in subjects.into_iter().zip(of_text) {
                     times.push(self.seconds(subject, text, repeats)?);
                 }
             }
@@ -88,12 +100,24 @@ impl Runner {
             .collect())
     }
 
-    /// What the whole text takes longer than its setup alone.
+    /// What the whole day file takes longer than its setup alone.
     fn measure_beyond(&mut self, setup: &str, rest: &str, repeats: usize) -> Result<Times, String> {
+        self.measure_more(SUBJECTS, output_of, setup, rest, repeats)
+    }
+
+    /// The same of a text that these subjects run, beside its known output.
+    fn measure_more<const COUNT: usize>(
+        &mut self,
+        subjects: [Subject; COUNT],
+        expected: fn(&[u8]) -> Vec<u8>,
+        setup: &str,
+        rest: &str,
+        repeats: usize,
+    ) -> Result<[f64; COUNT], String> {
         let whole = [setup, rest].concat();
-        self.check(whole.as_bytes())?;
         let texts = [whole.as_bytes(), setup.as_bytes()];
-        let measured = self.measure(&texts, ROUNDS, repeats)?;
+        self.check(&subjects, texts[0], &expected(texts[0]))?;
+        let measured = self.measure(subjects, &texts, ROUNDS, repeats)?;
         Ok(std::array::from_fn(|subject| {
             measured[0][subject] - measured[1][subject]
         }))
@@ -101,18 +125,22 @@ impl Runner {
 
     /// All subjects print the same, and no command is refused, so that the
     /// times are those of the work named.
-    fn check(&mut self, text: &[u8]) -> Result<(), String> {
-        let expected = output_of(text);
+    fn check(&mut self, subjects: &[Subject], text: &[u8], expected: &[u8]) -> Result<(), String> {
         let mut tally = Tally::default();
-        tally.count_output(&expected);
+        tally.count_output(expected);
         if tally.accepted != tally.commands {
             return Err("bench: a command of the measured day is refused".into());
         }
-        self.check_same(text, &expected)
+        self.check_same(subjects, text, expected)
     }
 
-    fn check_same(&mut self, text: &[u8], expected: &[u8]) -> Result<(), String> {
-        for subject in SUBJECTS {
+    fn check_same(
+        &mut self,
+        subjects: &[Subject],
+        text: &[u8],
+        expected: &[u8],
+    ) -> Result<(), String> {
+        for &subject in subjects {
             if self.run(subject, text)? != expected {
                 return Err("bench: engine and model print different days".into());
             }
@@ -151,7 +179,8 @@ pub fn bench() -> Result<(), String> {
         print_nanoseconds(&name, times, ORDERS);
     }
     bench_groups(&mut runner)?;
-    bench_session_end(&mut runner)
+    bench_session_end(&mut runner)?;
+    bench_auctions(&mut runner)
 }
 
 fn bench_long_days(runner: &mut Runner) -> Result<(), String> {
@@ -160,10 +189,10 @@ fn bench_long_days(runner: &mut Runner) -> Result<(), String> {
     for text in &texts {
         let expected = output_of(text);
         tally.count_output(&expected);
-        runner.check_same(text, &expected)?;
+        runner.check_same(&SUBJECTS, text, &expected)?;
     }
     let texts: Vec<&[u8]> = texts.iter().map(Vec::as_slice).collect();
-    let medians = runner.measure(&texts, LONG_DAY_ROUNDS, 1)?;
+    let medians = runner.measure(SUBJECTS, &texts, LONG_DAY_ROUNDS, 1)?;
     let times: Times =
         std::array::from_fn(|subject| medians.iter().map(|times| times[subject]).sum());
     let commands = tally.commands as f64;
@@ -197,16 +226,60 @@ fn bench_groups(runner: &mut Runner) -> Result<(), String> {
 fn bench_session_end(runner: &mut Runner) -> Result<(), String> {
     let mut setup = format!("{}L,1,0,200,1,K\nB,0,0,200,1,K\nC\n", setup(0));
     for place in 0..64 {
-        let lots = match place {
-            0 => 1,
-            63 => 3,
-            _ => 2,
-        };
+        let lots = sell_lots(place, 64);
         setup.push_str(&format!("P,0,B,0,2\nP,1,L,0,{lots}\n"));
     }
     let times = runner.measure_beyond(&setup, "Z\n", END_REPEATS)?;
     print_nanoseconds("session's end, 128 orders, 127 trades, ns", times, 1);
     Ok(())
+}
+
+/// Against buys of 2 lots, the sells' lots end with a buy's at the last only.
+fn sell_lots(place: usize, count: usize) -> usize {
+    match place {
+        0 => 1,
+        _ if place == count - 1 => 3,
+        _ => 2,
+    }
+}
+
+/// 128 orders in one security and in 16. A day has one auction, so it is run
+/// with all that comes before it; SHOW prints the orders that wait, as the end
+/// does where the auction is left out.
+fn bench_auctions(runner: &mut Runner) -> Result<(), String> {
+    for securities in [1, 16] {
+        let setup = collected(securities);
+        let times = runner.measure_more(
+            SCRIPT_SUBJECTS,
+            script_output,
+            &setup,
+            "SHOW\nAUCTION\n",
+            END_REPEATS,
+        )?;
+        let name = format!("auction, 128 orders, {securities} securities, ns");
+        print_script_row(&name, times);
+    }
+    Ok(())
+}
+
+/// As many buys as sells in each security, all of its prices different, and
+/// each buy reaching each sell. Only the last trade empties two orders.
+fn collected(securities: usize) -> String {
+    let count = 64 / securities;
+    let mut setup = format!("H,2,1,{securities}\n{}", "S,0,1,1\n".repeat(securities));
+    setup.push_str("R,0,0,1000000000\n");
+    for security in 0..securities {
+        setup.push_str(&format!("D,1,{security},1000000000\n"));
+    }
+    setup.push_str("COLLECT\n");
+    for place in 0..count {
+        let (buy, sell, lots) = (300 - place, 100 + place, sell_lots(place, count));
+        for security in 0..securities {
+            setup.push_str(&format!("B,0,{security},{buy},2,K\n"));
+            setup.push_str(&format!("L,1,{security},{sell},{lots},K\n"));
+        }
+    }
+    setup
 }
 
 fn print_nanoseconds(name: &str, times: Times, count: usize) {
@@ -220,5 +293,16 @@ fn print_row(name: &str, shown: Times, times: Times) {
         "{name:42}{proved:12.0}{model:12.0}{:7.2}{checked:12.0}{model_asking:12.0}{:7.2}",
         times[0] / times[1],
         times[2] / times[3]
+    );
+}
+
+/// Without the columns of what is known by proof.
+fn print_script_row(name: &str, [engine, model]: [f64; SCRIPT_SUBJECTS.len()]) {
+    println!(
+        "{name:42}{:31}{:12.0}{:12.0}{:7.2}",
+        "",
+        engine * 1e9,
+        model * 1e9,
+        engine / model
     );
 }

@@ -11,9 +11,9 @@ use model::generate::{day_file, script};
 use model::level::{DAY_FILE, SCRIPT};
 use model::tally::Tally;
 
-#[cfg(feature = "engine")]
+#[cfg(all(feature = "engine", feature = "replay"))]
 mod bench;
-#[cfg(feature = "engine")]
+#[cfg(all(feature = "engine", feature = "replay"))]
 mod clock;
 #[cfg(any(feature = "engine", feature = "replay"))]
 mod compare;
@@ -75,7 +75,7 @@ fn run(arguments: &[String]) -> Result<(), String> {
             let (first_seed, count) = seeds(rest)?;
             compare::compare_scripts(first_seed, count)
         }
-        #[cfg(feature = "engine")]
+        #[cfg(all(feature = "engine", feature = "replay"))]
         Some("bench") => bench::bench(),
         _ => Err(USAGE.into()),
     }

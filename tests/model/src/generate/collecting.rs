@@ -40,9 +40,11 @@ impl Day {
         let end = self.plan.length.min(self.plan.closing_at);
         let room = end.saturating_sub(length) * 2 / 3;
         let ends_at = length + self.random.index(room + 1);
+        let securities = self.engine.securities().len();
+        let few_each = securities * self.random.pick(&[2, 3, 4, 5, 6]);
         Collecting {
             ends_at: self.random.pick(&[ends_at, length + room, length + room]),
-            most_orders: self.random.pick(&[2, 4, 8, 20, 60, 128, 128, NEVER]),
+            most_orders: self.random.pick(&[few_each, few_each, 20, 128, NEVER]),
             prices: self.random.pick(&[2, 3, 4, 6, 9, 15, 60, PRICE_LIMIT]),
             most_lots: self.random.pick(&[1, 2, 3, 5, 20]),
         }
