@@ -2,18 +2,20 @@
 
 use super::day::Day;
 use super::NEVER;
-use crate::calls::{Call, Entry, EntryKind, Phase};
+use crate::calls::{Call, Entry, EntryKind, Phase, Side};
 use crate::engine::PRICE_LIMIT;
 
 /// How the kept orders of a collecting phase are drawn, and how long it lasts:
 /// up to a length of the text or a number of waiting orders. Few prices and
-/// few lots bring ties about.
+/// few lots bring ties about; eager orders meet all eager ones of the other
+/// side.
 #[derive(Clone, Copy, Default)]
 pub(super) struct Collecting {
     ends_at: usize,
     most_orders: usize,
     prices: u64,
     most_lots: u64,
+    eager_percent: u64,
 }
 
 impl Day {
@@ -47,6 +49,7 @@ impl Day {
             most_orders: self.random.pick(&[few_each, few_each, 20, 128, NEVER]),
             prices: self.random.pick(&[2, 3, 4, 6, 9, 15, 60, PRICE_LIMIT]),
             most_lots: self.random.pick(&[1, 2, 3, 5, 20]),
+            eager_percent: self.random.pick(&[0, 0, 0, 50, 100]),
         }
     }
 
@@ -105,14 +108,15 @@ impl Day {
     }
 
     fn collected_entry(&mut self) -> Entry {
+        let side = self.side();
         let security = self.security();
         let lots = self.lots();
         let few_lots = self.random.within(1, self.collecting.most_lots);
         Entry {
             participant: self.participant(),
-            side: self.side(),
+            side,
             security,
-            price: self.collected_price(security),
+            price: self.collected_price(side, security),
             lots: if self.random.chance(3) {
                 lots
             } else {
@@ -122,12 +126,19 @@ impl Day {
         }
     }
 
-    /// One of the few prices from the base on, whichever the side.
-    fn collected_price(&mut self, security: u64) -> u64 {
+    /// One of the few prices from the base on; an eager buy's is of the upper
+    /// half, an eager sell's of the lower.
+    fn collected_price(&mut self, side: Side, security: u64) -> u64 {
         let step = self.engine.securities()[security as usize].price_step;
         let base = self.base_steps[security as usize];
-        let most = (PRICE_LIMIT / step - base + 1).min(self.collecting.prices);
-        (base + self.random.below(most)) * step
+        let prices = (PRICE_LIMIT / step - base + 1).min(self.collecting.prices);
+        let eager = self.random.chance(self.collecting.eager_percent);
+        let steps = match side {
+            _ if !eager => self.random.below(prices),
+            Side::Buy => prices - 1 - self.random.below(prices.div_ceil(2)),
+            Side::Sell => self.random.below(prices.div_ceil(2)),
+        };
+        (base + steps) * step
     }
 
     /// What the phase doesn't admit.
