@@ -440,14 +440,10 @@ fn random_script_lines(random: &mut Random) -> Vec<u8> {
     for _ in 0..random.within(1, 200) {
         let of_script = random.pick(&SCRIPT_LINES);
         let of_day = random.pick(&LINES);
+        let without_sense = random.pick(&[of_script, of_day]);
         let order = random.pick(&KEPT_LINES);
-        let has_order = random.chance(orders_percent);
-        let lines = if has_order {
-            [order, order]
-        } else {
-            [of_script, of_day]
-        };
-        line(&mut text, random.pick(&lines));
+        let is_order = random.chance(orders_percent);
+        line(&mut text, if is_order { order } else { without_sense });
     }
     text
 }

@@ -30,12 +30,12 @@ impl Engine {
     pub fn auction_price(&self, security: usize) -> Option<u64> {
         let orders = self.orders_in(security);
         let prices = orders.map(|order| self.own_price(order));
-        let reached = prices.map(|price| (price, self.interest(security, price)));
-        reached
+        prices
+            .map(|price| (price, self.interest(security, price)))
             .filter(|(_, interest)| interest.traded() > 0)
             .max_by_key(|(price, interest)| {
-                let (smaller_gap, lower) = (Reverse(interest.gap()), Reverse(*price));
-                (interest.traded(), smaller_gap, lower)
+                let (least_gap, lowest) = (Reverse(interest.gap()), Reverse(*price));
+                (interest.traded(), least_gap, lowest)
             })
             .map(|(price, _)| price)
     }

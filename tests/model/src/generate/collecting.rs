@@ -35,17 +35,17 @@ impl Day {
         self.add(Call::StartCollecting);
     }
 
-    /// Leaves a good part of the day, or of what comes before closing, to
-    /// continuous trading; some never end.
+    /// Mostly leaves a good part of the day, or of what comes before closing,
+    /// to continuous trading; some never end.
     fn any_collecting(&mut self) -> Collecting {
         let length = self.text.len();
         let end = self.plan.length.min(self.plan.closing_at);
         let room = end.saturating_sub(length) * 2 / 3;
-        let ends_at = length + self.random.index(room + 1);
+        let (early, late) = (length + self.random.index(room + 1), length + room);
         let securities = self.engine.securities().len();
         let few_each = securities * self.random.pick(&[2, 3, 4, 5, 6]);
         Collecting {
-            ends_at: self.random.pick(&[ends_at, length + room, length + room]),
+            ends_at: self.random.pick(&[early, early, late, late, late, NEVER]),
             most_orders: self.random.pick(&[few_each, few_each, 20, 128, NEVER]),
             prices: self.random.pick(&[2, 3, 4, 6, 9, 15, 60, PRICE_LIMIT]),
             most_lots: self.random.pick(&[1, 2, 3, 5, 20]),
@@ -62,7 +62,7 @@ impl Day {
         self.text.len() >= ends_at || self.engine.waiting().len() >= most_orders
     }
 
-    /// A code whose order is gone, or nearly always so: dropped, cancelled.
+    /// A code whose order was dropped or, mostly, cancelled.
     fn write_used_code(&mut self) {
         let mut entry = self.entry();
         entry.kind = self.random.pick(&[EntryKind::Kept, EntryKind::Immediate]);
