@@ -102,6 +102,8 @@ groupOf (call.Group p n) = ofGroup p n
 groupOf call.StartClosing = noGroup
 groupOf (call.ClosingOrder p side s lots) = noGroup
 groupOf call.EndSession = noGroup
+groupOf call.StartCollecting = noGroup
+groupOf call.EndCollecting = noGroup
 
 -- a call, and a group's members' lines
 abbrev pub callBy : Call → Group → List ℕ → Yield

@@ -15,7 +15,7 @@ abbrev pub positionsRoom : ℕ
 positionsRoom = maxParticipants * (maxCurrencies + maxSecurities) * lineRoom 4
 
 abbrev pub phaseRoom : ℕ
-phaseRoom = 14
+phaseRoom = 17
 
 abbrev pub turnoverRoom : ℕ
 turnoverRoom = wordedRoom 8 3

@@ -26,6 +26,7 @@ fn put_phase(out: &mut [u8], at: usize, phase: Phase) -> usize
 {
     match phase {
         Phase::Open => put_bytes(out, at, b"PHASE,open\n"),
+        Phase::Collecting => put_bytes(out, at, b"PHASE,collecting\n"),
         Phase::Closing => put_bytes(out, at, b"PHASE,closing\n"),
         Phase::Closed => put_bytes(out, at, b"PHASE,closed\n"),
     }

@@ -114,13 +114,12 @@ fn is_wrong_group(call: Call) -> bool {
     MAX_MEMBERS < n
 }
 
-// A line of a day file.
-fn carry_out(p: Play, reading: Reading, trades: &mut [u64], out: &mut [u8]) -> Play
+// A line of a day file, or a word that is a call; what is read takes as many lines either way.
+fn carry_out(p: Play, reading: Reading, says: Line, trades: &mut [u64], out: &mut [u8]) -> Play
     requires { ⌜ maxLent ≤ length (now trades) ⌝ }
     requires { ⌜ Stands p (now out) ⌝ }
     ensures { λ r. ⌜ Follows room p (reading .next) (now (out .entry)) r (now (out .exit)) ⌝ }
 {
-    let says = reading.says;
     let Line::Call(call) = says else {
         return answered(p, reading.next, Answer::Refused(MALFORMED, 0), out);
     };
@@ -151,11 +150,13 @@ fn command(text: &[u8], p: Play, trades: &mut [u64], out: &mut [u8]) -> Play
     ensures { λ r. ⌜ Advances (now (text .entry)) p (now (out .entry)) r (now (out .exit)) ⌝ }
 {
     let reading = command_at(text, p.at);
+    let says = reading.says;
     let word = word_at(text, p.at);
     match word {
         Word::Lend(n) => lend(p, reading.next, n, out),
         Word::Show => show(p, reading.next, out),
-        Word::Other => carry_out(p, reading, trades, out),
+        Word::Call(call) => carry_out(p, reading, Line::Call(call), trades, out),
+        Word::Other => carry_out(p, reading, says, trades, out),
     }
 }
 

@@ -1,6 +1,7 @@
 // The words that a script has besides the letters of a day file.
 use lines::Value;
 use lines::number;
+use market::Call;
 ghost use Prim.Native.Nat.{_≤_, _<_};
 ghost use lib.ListN.{length};
 
@@ -13,6 +14,8 @@ pub enum Word {
     Lend(u64),
     // The lines of the end are printed here.
     Show,
+    // A call that a day file can't make.
+    Call(Call),
     // None of them: a line of a day file, or malformed.
     Other,
 }
@@ -49,6 +52,12 @@ fn lend_word(line: &[u8], end: usize) -> Word
 fn word_of(line: &[u8]) -> Word {
     if is_same(line, b"SHOW") {
         return Word::Show;
+    }
+    if is_same(line, b"COLLECT") {
+        return Word::Call(Call::StartCollecting);
+    }
+    if is_same(line, b"AUCTION") {
+        return Word::Call(Call::EndCollecting);
     }
     let end = bytes::scan::find(line, 0, line.len(), COMMA);
     if is_same(&line[..end], b"LENT") {
