@@ -48,7 +48,8 @@ module _ (l : List ℕ) (n : ℕ) (r : Rung) where
       ∙ getD-set-same l (numbersPerRung * n) (r .price) 0 (omega arith) in
       let b : getD withRung (numbersPerRung * n + 1) 0 ≡ r .bought =
       getD-set-other two (numbersPerRung * n + 2) (numbersPerRung * n + 1) (r .sold) 0 (λ e. omega arith)
-      ∙ getD-set-same one (numbersPerRung * n + 1) (r .bought) 0 (omega (arith, length-set l (numbersPerRung * n) (r .price))) in
+      ∙ getD-set-same one (numbersPerRung * n + 1) (r .bought) 0
+      (omega (arith, length-set l (numbersPerRung * n) (r .price))) in
       let c : getD withRung (numbersPerRung * n + 2) 0 ≡ r .sold =
       getD-set-same two (numbersPerRung * n + 2) (r .sold) 0 (omega (arith, long-two)) in
       λ i. record { price = a i; bought = b i; sold = c i }
@@ -66,7 +67,8 @@ module _ (l : List ℕ) (n : ℕ) (r : Rung) where
           ∙ getD-set-other one (numbersPerRung * n + 1) k (r .bought) 0 (λ e. omega arith)
           ∙ getD-set-other l (numbersPerRung * n) k (r .price) 0 (λ e. omega arith)
 
-  rungs-next : {w : List Order} {s : ℕ} → numbersPerRung * n + 2 < length l → Rungs l n w s → r ≡ rungOf s (orderAt w n) → Rungs withRung (n + 1) w s
+  rungs-next : {w : List Order} {s : ℕ} → numbersPerRung * n + 2 < length l → Rungs l n w s
+      → r ≡ rungOf s (orderAt w n) → Rungs withRung (n + 1) w s
   rungs-next {w} {s} h a e = record { each = λ i k. go i k (i =? n) refl }
     where
       go : (i : ℕ) → i < n + 1 → (k : Bool) → (i =? n) ≡ k → rungAt withRung i ≡ rungOf s (orderAt w i)

@@ -9,14 +9,16 @@ use Rattle.market.specs.declared.Order.{Order}
 use Rattle.market.specs.Tests.{_<?_}
 use Rattle.market.specs.Day.{orderAt}
 use Rattle.market.specs.View.{firstOrders}
+use Rattle.market.specs.Auction.{auctionPrice, leading, precedes, priceOn, volume, writtenPrices}
 use Rattle.matching.proofs.First.{first-next}
 use Rattle.auction.specs.declared.Level.{Level}
-use Rattle.market.specs.Auction.{auctionPrice, leading, precedes, priceOn, volume, writtenPrices}
 use Rattle.auction.specs.Ladder.{ahead, levelAt}
 use Rattle.auction.proofs.Ties.{lead-next}
 
+-- the price of one order more stands behind the others
 written-later : (s : ℕ) (v : List Order) (o : Order)
-    → writtenPrices s (v ++ (o ∷ [])) ≡ cond (0 <? priceOn s o) (writtenPrices s v ++ (priceOn s o ∷ [])) (writtenPrices s v)
+    → writtenPrices s (v ++ (o ∷ []))
+    ≡ cond (0 <? priceOn s o) (writtenPrices s v ++ (priceOn s o ∷ [])) (writtenPrices s v)
 unfolding writtenPrices
 written-later s [] o = refl
 written-later s (x ∷ v) o = rw (written-later s v o) (go (0 <? priceOn s x) (0 <? priceOn s o))

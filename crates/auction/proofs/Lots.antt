@@ -77,7 +77,8 @@ module _ (u : ℕ) where
   unfolding writtenPrices
   unwritten o w n = rw (price-other u o n)
 
-  written-tail : (o : Order) (v w : List Order) → writtenPrices u v ≡ writtenPrices u w → writtenPrices u (o ∷ v) ≡ writtenPrices u (o ∷ w)
+  written-tail : (o : Order) (v w : List Order) → writtenPrices u v ≡ writtenPrices u w
+      → writtenPrices u (o ∷ v) ≡ writtenPrices u (o ∷ w)
   unfolding writtenPrices
   written-tail o v w e = rw e
 
@@ -205,7 +206,8 @@ module _ (v w : List Order) (u : ℕ)
       let l : leading v u 0 (writtenPrices u v) ≡ leading w u 0 (writtenPrices u w) =
       leading-same (writtenPrices u v) 0 ∙ ap (leading w u 0) e in
       ap (λ (p : ℕ). cond (0 <? volume v u p) p 0) l
-      ∙ ap (λ (n : ℕ). cond (0 <? n) (leading w u 0 (writtenPrices u w)) 0) (volume-same (leading w u 0 (writtenPrices u w)))
+      ∙ ap (λ (n : ℕ). cond (0 <? n) (leading w u 0 (writtenPrices u w)) 0)
+      (volume-same (leading w u 0 (writtenPrices u w)))
 
 -- the lots of the trades in their own security, and in another
 module _ (p s : ℕ) where

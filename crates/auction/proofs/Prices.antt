@@ -47,7 +47,8 @@ lots-at x s p o = go x (s =? o .security) (opposite x (o .side)) (o .kind)
   where
     go : (x : Side) (a b : Bool) (k : Kind)
         → cond (a and b and reaches x (kind.Kept p) k) (o .lots) 0
-        ≡ cond (reaches x (kind.Kept p) (kind.Kept (cond a (priceOr 0 k) 0))) (cond (a and isKept k and b) (o .lots) 0) 0
+        ≡ cond (reaches x (kind.Kept p) (kind.Kept (cond a (priceOr 0 k) 0)))
+        (cond (a and isKept k and b) (o .lots) 0) 0
     go x true true (kind.Kept q) = refl
     go Buy true true kind.Closing = no-lots (reaches Buy (kind.Kept p) (kind.Kept 0))
     go Sell true true kind.Closing = no-lots (reaches Sell (kind.Kept p) (kind.Kept 0))

@@ -17,8 +17,8 @@ use Rattle.market.specs.Auction.{auctionPrice, auctionTerms, gap, volume}
 use Rattle.market.proofs.Lists.{All}
 use Rattle.market.proofs.Needs.{isKept}
 
--- "most lots trade. Ties go to the smaller gap between lots wanted and lots offered, then to the lower price": p doesn't
--- go before q
+-- "most lots trade. Ties go to the smaller gap between lots wanted and lots offered, then to the lower price": p does
+-- not go before q
 pub record Behind (w : List Order) (s p q : ℕ) : Type 0 where
   pub lots : volume w s p ≤ volume w s q
   pub gaps : volume w s p ≡ volume w s q → gap w s q ≤ gap w s p

@@ -63,7 +63,7 @@ fn rung_of(o: Order, security: u64) -> Rung
     rung
 }
 
-// The orders are read once; every price is then tried on plain numbers.
+// The orders are read once: each price is then tried on plain numbers, and no order is copied for it.
 fn lay_out(book: OrderBook, security: u64, ladder: &mut [u64; LADDER])
     requires { ⌜ (length (now ladder) ≡ ladderNumbers) × FewLots (book .count) (waitingIn book) ⌝ }
     ensures { λ _. ⌜ Shows (now (ladder .exit)) (book .count) (book .orders) security ⌝ }
@@ -81,20 +81,21 @@ fn lay_out(book: OrderBook, security: u64, ladder: &mut [u64; LADDER])
     }
 }
 
+// The gap is one number whichever side is the larger.
 fn distance(a: u64, b: u64) -> u64
     ensures { λ r. ⌜ r ≡ (a - b) + (b - a) ⌝ }
 {
     if a < b { b - a } else { a - b }
 }
 
-// An order's lots count where the price that meets it is high enough, and its own low enough.
+// A buy's lots are wanted where the price is the low one, a sell's offered where it is the high one.
 fn reached(low: u64, high: u64, lots: u64) -> u64
     ensures { λ r. ⌜ r ≡ cond (low ≤? high) lots 0 ⌝ }
 {
     if low <= high { lots } else { 0 }
 }
 
-// Lots wanted and offered at a price, in one pass over the ladder.
+// Lots wanted and offered at a price, in one pass over the ladder: an order that takes no part adds 0.
 fn level_at(ladder: &[u64; LADDER], count: usize, price: u64) -> Level
     requires { ⌜ Laid (now ladder) count ⌝ }
     ensures { λ r. ⌜ Levels (now (ladder .entry)) count price r ⌝ }
@@ -131,13 +132,14 @@ fn precedes(a: Level, b: Level) -> bool
     a.price < b.price
 }
 
+// The one that stays when a price is tried against the leading one.
 fn first_of(a: Level, b: Level) -> Level
     ensures { λ r. ⌜ r ≡ cond (ahead a b) a b ⌝ }
 {
     if precedes(a, b) { a } else { b }
 }
 
-// Each written price is tried, and the one that goes before all others kept; 0 stands for none, where nothing trades.
+// Each written price is tried, and the one that goes before all others stays; 0 stands for none, where nothing trades.
 pub fn price(book: OrderBook, security: u64) -> u64
     requires { ⌜ FewLots (book .count) (waitingIn book) ⌝ }
     ensures { λ r. ⌜ r ≡ auctionPrice (waitingIn book) security ⌝ }

@@ -37,7 +37,9 @@ array-read-written : tie.Need-array-read-written Inv-loop μ-loop
 array-read-written c = omega (arith, c .before .before .before .before .before .before .pre .room)
 
 level-at-requires-2 : tie.Need-level-at-requires-2 Inv-loop μ-loop
-level-at-requires-2 c κs = record { orders = _; security = _; shows = c .before .before .before .before .before .before .lay-out .ensures }
+level-at-requires-2 c κs =
+    let l = c .before .before .before in
+    record { orders = _; security = _; shows = l .before .before .before .lay-out .ensures }
 
 first-of-requires : tie.Need-first-of-requires Inv-loop μ-loop
 first-of-requires c κs = tt
@@ -60,12 +62,14 @@ loop-again c = λ w h.
 returns : tie.Need-returns Inv-loop μ-loop
 returns c =
     let l = c .before .before .before in
-    led-trades (l .loop .inv _ (l .before .before .before .lay-out .ensures)) (c .before .before .loop-test .left) (c .if2 .taken)
+    let h = l .before .before .before .lay-out .ensures in
+    led-trades (l .loop .inv _ h) (c .before .before .loop-test .left) (c .if2 .taken)
 
 returns-2 : tie.Need-returns-2 Inv-loop μ-loop
 returns-2 c =
     let l = c .before .before .before in
-    led-none (l .loop .inv _ (l .before .before .before .lay-out .ensures)) (c .before .before .loop-test .left) (c .if2 .left)
+    let h = l .before .before .before .lay-out .ensures in
+    led-none (l .loop .inv _ h) (c .before .before .loop-test .left) (c .if2 .left)
 
 pub price-spec : {M : Type 1} → statement M
 price-spec =
