@@ -21,6 +21,7 @@ use Rattle.market.specs.Pairing.{Paired, Terms, counterparty, firstBuy, firstSe
 use Rattle.market.specs.Pairing.{takeBoth}
 use Rattle.market.specs.Auction.{auctionPrice, auctionTerms, gap, leading, lotsOffered, lotsWanted, precedes, volume}
 use Rattle.market.specs.Auction.{writtenPrices}
+use Rattle.market.specs.Step.{effect}
 use Rattle.market.proofs.Lists.{All, all-append, all-map, sum-append}
 use Rattle.market.proofs.Waiting.{at-takeOff, length-takeOff, takeOff-suc}
 use Rattle.market.proofs.Matching.{Chosen, best-chosen, none-fitting}
@@ -308,6 +309,7 @@ from-lots w (suc n) s d h =
 
 -- "Its end finds, for each security, the written price at which most lots trade .. All trades are at that price"
 pub auction-lots : (d : Day) → Auctioned (d .waiting) (d .rules .securities) 0 (auctionTrades d)
+unfolding effect
 auction-lots d =
     from-lots (d .waiting) (d .rules .securities) 0 d (record { fitting = λ x u k l. refl; written = λ u l. refl })
 

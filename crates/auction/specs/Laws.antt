@@ -11,9 +11,11 @@ use Rattle.market.specs.declared.Side.the-variants.{Buy, Sell}
 use Rattle.market.specs.Tests.{_=?_, sumOf}
 use Rattle.market.specs.Day.{Day, orderAt}
 use Rattle.market.specs.TradeList.{Trade, lotsOf}
+use Rattle.market.specs.Calls.{endCollecting}
 use Rattle.market.specs.Matching.{priceOf}
-use Rattle.market.specs.Pairing.{Terms, pairs, pairsFrom}
-use Rattle.market.specs.Auction.{auctionPrice, auctionTerms, gap, volume}
+use Rattle.market.specs.Pairing.{Terms, pairs}
+use Rattle.market.specs.Auction.{auctionPrice, gap, volume}
+use Rattle.market.specs.Step.{effect}
 use Rattle.market.proofs.Lists.{All}
 use Rattle.market.proofs.Needs.{isKept}
 
@@ -51,9 +53,9 @@ pub record Priced (o : Order) : Type 0 where
   pub lots : 0 < o .lots
   pub price : isKept (o .kind) ≡ true → 0 < priceOf o
 
--- the trades of the end of collecting
+-- the trades of the call that ends collecting
 abbrev pub auctionTrades : Day → List Trade
-auctionTrades d = (pairsFrom auctionTerms (d .rules .securities) 0 d) .trades
+auctionTrades d = (effect d endCollecting) .trades
 
 -- the lots of the trades in security s
 unfoldable pub lotsIn : ℕ → List Trade → ℕ
