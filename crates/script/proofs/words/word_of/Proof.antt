@@ -14,26 +14,44 @@ is-same-requires c κs = search needs
 returns : tie.Need-returns
 returns c = search needs
 
-find-requires : tie.Need-find-requires
-find-requires c κs = search needs
-
 slice-aggregate-is-same-2 : tie.Need-slice-aggregate-is-same-2
-slice-aggregate-is-same-2 c = sym (length-take-le _ _ (c .before .find .ensures .1))
-
-slice-aggregate-is-same-3 : tie.Need-slice-aggregate-is-same-3
-slice-aggregate-is-same-3 c = search needs
+slice-aggregate-is-same-2 c = search needs
 
 is-same-requires-2 : tie.Need-is-same-requires-2
 is-same-requires-2 c κs = search needs
 
-lend-word-requires : tie.Need-lend-word-requires
-lend-word-requires c κs = search needs
-
 returns-2 : tie.Need-returns-2
 returns-2 c = search needs
 
+slice-aggregate-is-same-3 : tie.Need-slice-aggregate-is-same-3
+slice-aggregate-is-same-3 c = search needs
+
+is-same-requires-3 : tie.Need-is-same-requires-3
+is-same-requires-3 c κs = search needs
+
 returns-3 : tie.Need-returns-3
 returns-3 c = search needs
+
+find-requires : tie.Need-find-requires
+find-requires c κs = search needs
+
+slice-aggregate-is-same-4 : tie.Need-slice-aggregate-is-same-4
+slice-aggregate-is-same-4 c = sym (length-take-le _ _ (c .before .find .ensures .1))
+
+slice-aggregate-is-same-5 : tie.Need-slice-aggregate-is-same-5
+slice-aggregate-is-same-5 c = search needs
+
+is-same-requires-4 : tie.Need-is-same-requires-4
+is-same-requires-4 c κs = search needs
+
+lend-word-requires : tie.Need-lend-word-requires
+lend-word-requires c κs = search needs
+
+returns-4 : tie.Need-returns-4
+returns-4 c = search needs
+
+returns-5 : tie.Need-returns-5
+returns-5 c = search needs
 
 pub word-of-spec : {M : Type 1} → statement M
 word-of-spec =
@@ -42,10 +60,16 @@ word-of-spec =
     slice-aggregate-is-same
     is-same-requires
     returns
-    find-requires
     slice-aggregate-is-same-2
-    slice-aggregate-is-same-3
     is-same-requires-2
-    lend-word-requires
     returns-2
-    returns-3)
+    slice-aggregate-is-same-3
+    is-same-requires-3
+    returns-3
+    find-requires
+    slice-aggregate-is-same-4
+    slice-aggregate-is-same-5
+    is-same-requires-4
+    lend-word-requires
+    returns-4
+    returns-5)
