@@ -1,5 +1,6 @@
 // Cases that no script can say, run on the engine: states made by hand, what lies past the counts, a million codes,
 // numbers too long for a line, and what a call leaves as it was. Lot 10, step 5.
+use engine::end_collecting;
 use engine::end_session;
 use engine::enter_closing_order;
 use engine::enter_group;
@@ -7,6 +8,7 @@ use engine::increase_money;
 use engine::increase_pieces;
 use engine::opening;
 use engine::start_closing;
+use engine::start_collecting;
 use host::enter_order;
 use libc::STDOUT_FILENO;
 use market::Answer;
@@ -270,14 +272,22 @@ fn kinds_while_open() {
     asked_kind(b"a closing order while open: 1", Kind::Closing);
 }
 
-// The same order while closing, with Q pieces and T money of its security traded.
-fn asked_closing(label: &[u8], kind: Kind, pieces: u64, money: u64) {
+// The same order in a phase, with Q pieces and T money of its security traded.
+fn in_phase(phase: Phase, kind: Kind, pieces: u64, money: u64) -> State {
     let s = waiting(sell_order(3, 1, 0, 10, kind));
     let cash = s.money;
     let stock = s.pieces;
-    let mut t = state_of(s, Phase::Closing, cash, stock, book_of(s));
+    let mut t = state_of(s, phase, cash, stock, book_of(s));
     t.turnover[0] = Turnover { pieces, money };
-    asked(label, t);
+    t
+}
+
+fn asked_closing(label: &[u8], kind: Kind, pieces: u64, money: u64) {
+    asked(label, in_phase(Phase::Closing, kind, pieces, money));
+}
+
+fn asked_collecting(label: &[u8], kind: Kind, pieces: u64, money: u64) {
+    asked(label, in_phase(Phase::Collecting, kind, pieces, money));
 }
 
 fn kinds_while_closing() {
@@ -289,6 +299,21 @@ fn kinds_while_closing() {
         10,
         950,
     );
+}
+
+fn kinds_while_collecting() {
+    let kept = Kind::Kept(95);
+    asked_collecting(b"a kept order while collecting, sound", kept, 0, 0);
+    asked_collecting(b"Q and T while collecting, sound", kept, 10, 950);
+    asked_collecting(b"price off the step: 1", Kind::Kept(96), 0, 0);
+    asked_collecting(
+        b"a closing order while collecting: 1",
+        Kind::Closing,
+        10,
+        950,
+    );
+    let s = in_phase(Phase::Closed, kept, 0, 0);
+    asked(b"a kept order when closed: 1", s);
 }
 
 // Two orders of 5 lots, the first of code 3.
@@ -606,6 +631,53 @@ fn closing_prices() {
     closing_near_the_limit(b"one less: 999999", 9999985000004999999);
 }
 
+fn unsound_collecting() {
+    let mut trades = [0u64; 1088];
+    let mut s = funded();
+    s.count = 129;
+    after(b"start of collecting: 1", start_collecting(s));
+    after(b"end of collecting: 1", end_collecting(s, &mut trades));
+}
+
+fn collecting() -> State {
+    let o = start_collecting(funded());
+    o.state
+}
+
+fn collecting_codes() {
+    let mut s = funded();
+    s.codes = 1000000;
+    after(b"1000000 codes given: 21", start_collecting(s));
+    let mut s = collecting();
+    s.codes = 1000000;
+    after(b"1000000 codes given: 13", order(s, 0, buy(0, 100, 1)));
+}
+
+// Sell 10 at 95 and buy 20 at 100 are collected, where Q is 10 and T 950.
+fn collected() -> State {
+    let s = kept(collecting(), 1, sell(0, 95, 10));
+    let mut s = kept(s, 0, buy(0, 100, 20));
+    s.turnover[0] = Turnover {
+        pieces: 10,
+        money: 950,
+    };
+    s
+}
+
+// The lower of two prices at which 10 lots trade.
+fn one_auction() {
+    let mut trades = [7u64; 1088];
+    let s = after(
+        b"end of collecting",
+        end_collecting(collected(), &mut trades),
+    );
+    numbers(b"its trade", &trades, 0);
+    numbers(b"the numbers after it", &trades, 8);
+    money(b"free and blocked money of the buyer", s, 0);
+    let t = s.turnover[0];
+    position(b"Q and T stay", t.pieces, t.money);
+}
+
 // Closing buys 3 and 4, sell 5.
 fn paired() -> State {
     let o = enter_closing_order(closing(), 0, Side::Buy, 0, 3);
@@ -651,6 +723,7 @@ fn states() {
     order_lots();
     kinds_while_open();
     kinds_while_closing();
+    kinds_while_collecting();
     lists();
     blocked_pieces();
     unsound_money();
@@ -666,6 +739,7 @@ fn left_as_it_was() {
     group_of_eight();
     two_pairs();
     all_pairs();
+    one_auction();
 }
 
 fn main() {
@@ -679,4 +753,6 @@ fn main() {
     closing_codes();
     closing_prices();
     unsound_session();
+    collecting_codes();
+    unsound_collecting();
 }
