@@ -7,16 +7,18 @@ use Rattle.market.specs.declared.Carried.{Carried}
 use Rattle.market.specs.declared.OrderBook.{OrderBook}
 use Rattle.market.specs.declared.Phase.{Phase}
 use Rattle.market.specs.declared.Rules.{Rules}
+use Rattle.market.specs.declared.Session.{Session}
+use Rattle.market.specs.declared.Session.the-variants as session
 use Rattle.market.specs.declared.Side.{Side}
 use Rattle.market.specs.Day.{Day}
 use Rattle.market.specs.View.{dayOf}
 use Rattle.market.specs.TradeList.{Trade, written}
 use Rattle.market.specs.Answers.{Result}
-use Rattle.market.specs.Calls.{Call, cancel, closingOrder, startClosing, startCollecting}
+use Rattle.market.specs.Calls.{Call, cancel, closingOrder}
 use Rattle.market.specs.Questions.{firstNo, questions}
 use Rattle.market.specs.Entry.{placed}
 use Rattle.market.specs.Step.{allQuestions, answerBy, effect, result, step}
-use Rattle.market.specs.Parts.{Carries}
+use Rattle.market.specs.Parts.{Carries, startOf}
 
 -- its questions ask for no list, and it makes no trade
 pub record Listless (c : Call) : Type 0 where
@@ -27,13 +29,10 @@ pub cancel-listless : (p code : ℕ) → Listless (cancel p code)
 unfolding questions effect
 cancel-listless p code = record { asks = λ d n. refl; writes = λ d. refl }
 
-pub start-listless : Listless startClosing
+pub start-listless : (z : Session) → Listless (startOf z)
 unfolding questions effect
-start-listless = record { asks = λ d n. refl; writes = λ d. refl }
-
-pub collecting-listless : Listless startCollecting
-unfolding questions effect
-collecting-listless = record { asks = λ d n. refl; writes = λ d. refl }
+start-listless session.Closing = record { asks = λ d n. refl; writes = λ d. refl }
+start-listless session.Collecting = record { asks = λ d n. refl; writes = λ d. refl }
 
 pub closing-listless : (p : ℕ) (side : Side) (s lots : ℕ) → Listless (closingOrder p side s lots)
 unfolding questions effect placed

@@ -10,11 +10,9 @@ use orders::cancel;
 use orders::order;
 use reserves::answer_of;
 use reserves::moved;
-use session::Session;
 use session::end;
 use session::enter_closing_order;
-use session::start_closing;
-use session::start_collecting;
+use session::start;
 ghost use Rattle.market.specs.Parts.{Carries, Ready, callOf};
 
 // A group's members stand beside the call. Trades stand from the start of the lent list on.
@@ -45,12 +43,10 @@ pub fn carry_out(
         }
         Call::Cancel(p, code) => cancel(b, rules, phase, p, code, money, pieces),
         Call::Group(p, n) => group(b, rules, phase, p, n, members, money, pieces, trades),
-        Call::StartClosing => start_closing(b, rules, phase, money, pieces),
+        Call::Start(session) => start(session, b, rules, phase, money, pieces),
         Call::ClosingOrder(p, side, s, lots) => {
             enter_closing_order(b, rules, phase, p, side, s, lots, money, pieces)
         }
-        Call::EndSession => end(Session::Closing, b, rules, phase, money, pieces, trades),
-        Call::StartCollecting => start_collecting(b, phase),
-        Call::EndCollecting => end(Session::Auction, b, rules, phase, money, pieces, trades),
+        Call::End(session) => end(session, b, rules, phase, money, pieces, trades),
     }
 }

@@ -6,6 +6,7 @@ use market::Call;
 use market::Move;
 use market::Outcome;
 use market::Security;
+use market::Session;
 use market::Side;
 use market::State;
 use market::Ticket;
@@ -173,7 +174,7 @@ pub fn enter_group(
 pub fn start_closing(s: State) -> Outcome
     ensures { λ r. ⌜ Does s [] startClosing r [] ⌝ }
 {
-    plain(s, Call::StartClosing)
+    plain(s, Call::Start(Session::Closing))
 }
 
 pub fn enter_closing_order(
@@ -192,18 +193,18 @@ pub fn enter_closing_order(
 pub fn end_session(s: State, trades: &mut [u64]) -> Outcome
     ensures { λ r. ⌜ Does s (now (trades .entry)) endSession r (now (trades .exit)) ⌝ }
 {
-    call(s, Call::EndSession, no_tickets(), trades)
+    call(s, Call::End(Session::Closing), no_tickets(), trades)
 }
 
 pub fn start_collecting(s: State) -> Outcome
     ensures { λ r. ⌜ Does s [] startCollecting r [] ⌝ }
 {
-    plain(s, Call::StartCollecting)
+    plain(s, Call::Start(Session::Collecting))
 }
 
 // The trades stand from the start of the lent list on.
 pub fn end_collecting(s: State, trades: &mut [u64]) -> Outcome
     ensures { λ r. ⌜ Does s (now (trades .entry)) endCollecting r (now (trades .exit)) ⌝ }
 {
-    call(s, Call::EndCollecting, no_tickets(), trades)
+    call(s, Call::End(Session::Collecting), no_tickets(), trades)
 }

@@ -5,6 +5,7 @@ use mathlib.Core.Bool.{Bool, true, false, cond}
 use lib.ListN.{getD}
 use Rattle.market.specs.declared.Call.the-variants as call
 use Rattle.market.specs.declared.Move.the-variants as move
+use Rattle.market.specs.declared.Session.the-variants as session
 use Rattle.market.specs.declared.Side.{Side}
 use Rattle.market.specs.declared.Side.the-variants.{Buy, Sell}
 use Rattle.market.specs.declared.TimeInForce.{TimeInForce}
@@ -91,7 +92,7 @@ table =
           (record { side = sideOf (at v 0); security = at v 1; price = at v 2; lots = at v 3 });
     }
     -- C (start)
-    ∷ record { letter = 67; parts = []; says = λ v. line.Call call.StartClosing }
+    ∷ record { letter = 67; parts = []; says = λ v. line.Call (call.Start session.Closing) }
     -- P (closing: participant,side,security,lots)
     ∷ record {
       letter = 80;
@@ -99,7 +100,7 @@ table =
       says = λ v. line.Call (call.ClosingOrder (at v 0) (sideOf (at v 1)) (at v 2) (at v 3));
     }
     -- Z (end)
-    ∷ record { letter = 90; parts = []; says = λ v. line.Call call.EndSession }
+    ∷ record { letter = 90; parts = []; says = λ v. line.Call (call.End session.Closing) }
     ∷ []
 
 -- the first row with that letter

@@ -1,6 +1,7 @@
 // What a line of a day file says.
 use market::Call;
 use market::Move;
+use market::Session;
 use market::Side;
 use market::Ticket;
 use market::TimeInForce;
@@ -234,9 +235,9 @@ fn says(letter: u8, v: [u64; 5]) -> Line
             price: v[2],
             lots: v[3],
         }),
-        b'C' => Line::Call(Call::StartClosing),
+        b'C' => Line::Call(Call::Start(Session::Closing)),
         b'P' => Line::Call(Call::ClosingOrder(v[0], side_of(v[1]), v[2], v[3])),
-        b'Z' => Line::Call(Call::EndSession),
+        b'Z' => Line::Call(Call::End(Session::Closing)),
         _ => Line::Malformed,
     }
 }

@@ -11,6 +11,8 @@ use Rattle.market.specs.declared.Move.the-variants as moved
 use Rattle.market.specs.declared.OrderBook.{OrderBook}
 use Rattle.market.specs.declared.Phase.{Phase}
 use Rattle.market.specs.declared.Rules.{Rules}
+use Rattle.market.specs.declared.Session.{Session}
+use Rattle.market.specs.declared.Session.the-variants as session
 use Rattle.market.specs.declared.State.{State}
 use Rattle.market.specs.declared.Ticket.{Ticket}
 use Rattle.market.specs.Day.{Money, Pieces}
@@ -42,16 +44,23 @@ moveOf (moved.DecreaseMoney p c a) = decrease Money p c a
 moveOf (moved.IncreasePieces p s a) = increase Pieces p s a
 moveOf (moved.DecreasePieces p s a) = decrease Pieces p s a
 
+-- the calls that start and end a session
+abbrev pub startOf : Session → Call
+startOf session.Closing = startClosing
+startOf session.Collecting = startCollecting
+
+abbrev pub endOf : Session → Call
+endOf session.Closing = endSession
+endOf session.Collecting = endCollecting
+
 abbrev pub callOf : code.Call → List Ticket → Call
 callOf (coded.Reserve move) ms = moveOf move
 callOf (coded.Order p m force) ms = order p m force
 callOf (coded.Cancel p code) ms = cancel p code
 callOf (coded.Group p n) ms = linked p n ms
-callOf coded.StartClosing ms = startClosing
+callOf (coded.Start z) ms = startOf z
 callOf (coded.ClosingOrder p side s lots) ms = closingOrder p side s lots
-callOf coded.EndSession ms = endSession
-callOf coded.StartCollecting ms = startCollecting
-callOf coded.EndCollecting ms = endCollecting
+callOf (coded.End z) ms = endOf z
 
 -- the day that these parts make up is sound, and its arrays have their lengths
 pub record Ready (r : Rules) (x : Phase) (m k : List ℕ) (b : OrderBook) : Type 0 where

@@ -132,6 +132,12 @@ pub enum Move {
     DecreasePieces(u64, u64, u64),
 }
 
+// What has a start and an end of its own: the closing session, and collecting, which ends with the auction.
+pub enum Session {
+    Closing,
+    Collecting,
+}
+
 // A call with its arguments; the members of a group stand beside it.
 pub enum Call {
     Reserve(Move),
@@ -141,12 +147,10 @@ pub enum Call {
     Cancel(u64, u64),
     // Participant and number of members.
     Group(u64, u64),
-    StartClosing,
+    Start(Session),
     // Participant, side, security, lots.
     ClosingOrder(u64, Side, u64, u64),
-    EndSession,
-    StartCollecting,
-    EndCollecting,
+    End(Session),
 }
 
 // A position's cell is participant * 16 + currency or security, free at twice that cell and blocked behind it; the first

@@ -19,11 +19,9 @@ other-call (call.Reserve m) h = refl
 other-call (call.Order p m k) h = refl
 other-call (call.Cancel p code) h = refl
 other-call (call.Group p n) h = absurd (miss (otherCalls groupTag) groupTag tt h)
-other-call call.StartClosing h = refl
+other-call (call.Start z) h = refl
 other-call (call.ClosingOrder p side s lots) h = refl
-other-call call.EndSession h = refl
-other-call call.StartCollecting h = refl
-other-call call.EndCollecting h = refl
+other-call (call.End z) h = refl
 
 -- a line that is no group's takes no other lines; `held` is what it says where the code's ways meet
 pub no-group : (says held : Line) (c : Call) (t : List ℕ) → says ≡ line.Call c → held ≡ line.Call c → OtherCall groupTag c

@@ -23,7 +23,7 @@ abbrev pub otherLines : ℕ → List ℕ
 otherLines tag = removeAt (0 ∷ 1 ∷ 2 ∷ 3 ∷ 4 ∷ []) tag
 
 abbrev pub otherCalls : ℕ → List ℕ
-otherCalls tag = removeAt (0 ∷ 1 ∷ 2 ∷ 3 ∷ 4 ∷ 5 ∷ 6 ∷ 7 ∷ 8 ∷ []) tag
+otherCalls tag = removeAt (0 ∷ 1 ∷ 2 ∷ 3 ∷ 4 ∷ 5 ∷ 6 ∷ []) tag
 
 -- of another variant than the one with this tag
 abbrev pub OtherLine : ℕ → Line → Type 0

@@ -99,11 +99,9 @@ groupOf (call.Reserve move) = noGroup
 groupOf (call.Order p m k) = noGroup
 groupOf (call.Cancel p code) = noGroup
 groupOf (call.Group p n) = ofGroup p n
-groupOf call.StartClosing = noGroup
+groupOf (call.Start z) = noGroup
 groupOf (call.ClosingOrder p side s lots) = noGroup
-groupOf call.EndSession = noGroup
-groupOf call.StartCollecting = noGroup
-groupOf call.EndCollecting = noGroup
+groupOf (call.End z) = noGroup
 
 -- a call, and a group's members' lines
 abbrev pub callBy : Call → Group → List ℕ → Yield

@@ -2,6 +2,7 @@
 use lines::Value;
 use lines::number;
 use market::Call;
+use market::Session;
 ghost use Prim.Native.Nat.{_≤_, _<_};
 ghost use lib.ListN.{length};
 
@@ -54,10 +55,10 @@ fn word_of(line: &[u8]) -> Word {
         return Word::Show;
     }
     if is_same(line, b"COLLECT") {
-        return Word::Call(Call::StartCollecting);
+        return Word::Call(Call::Start(Session::Collecting));
     }
     if is_same(line, b"AUCTION") {
-        return Word::Call(Call::EndCollecting);
+        return Word::Call(Call::End(Session::Collecting));
     }
     let end = bytes::scan::find(line, 0, line.len(), COMMA);
     if is_same(&line[..end], b"LENT") {

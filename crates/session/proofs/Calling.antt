@@ -1,43 +1,46 @@
 -- Starts and ends of the sessions on the parts of a sound day, as the contracts ask for them.
 use Prim.Native.Nat.{ℕ, _≤_, _<_}
 use native.Mathlib.Omega.{arith}
-use mathlib.Core.Path.{_≡_, refl, sym, _∙_, subst}
+use mathlib.Core.Path.{_≡_, refl, ap, sym, _∙_, subst}
 use mathlib.Core.List.{List, [], _∷_}
 use mathlib.Core.Bool.{true, false}
 use lib.ListN.{length}
-use borrow.Author.Tests.{eq-eqb, le-leb, lt-leb, ne-eqb}
+use borrow.Author.Tests.{eqb-true, le-leb, lt-leb}
 use Rattle.market.specs.declared.Answer.the-variants.{Done, Refused}
+use Rattle.market.specs.declared.Order.{Order}
 use Rattle.market.specs.declared.OrderBook.{OrderBook}
 use Rattle.market.specs.declared.Phase.{Phase}
 use Rattle.market.specs.declared.Phase.the-variants as phase
 use Rattle.market.specs.declared.Rules.{Rules}
+use Rattle.market.specs.declared.Session.{Session}
+use Rattle.market.specs.declared.Session.the-variants.{Closing, Collecting}
 use Rattle.market.specs.Limits.{lentAtLeast}
-use Rattle.market.specs.Day.{Day}
+use Rattle.market.specs.Day.{Day, withPhase}
 use Rattle.market.specs.View.{dayOf}
 use Rattle.market.specs.Sound.{isOpen}
-use Rattle.market.specs.Answers.{Result}
-use Rattle.market.specs.Calls.{startClosing, startCollecting}
+use Rattle.market.specs.Codes.{codesOf, given}
+use Rattle.market.specs.Waiting.{allLeave, leaveFirst}
+use Rattle.market.specs.TradeList.{written}
+use Rattle.market.specs.Answers.{Result, zeros}
 use Rattle.market.specs.Questions.{ask, enoughLent, firstNo, questions}
 use Rattle.market.specs.Pairing.{endResult, pairsFrom}
 use Rattle.market.specs.Step.{effect}
-use Rattle.market.specs.Parts.{Carries, Ready}
+use Rattle.market.specs.Parts.{Carries, Ready, endOf, startOf}
 use Rattle.market.proofs.Known.{closing-phase, collecting-phase}
+use Rattle.market.proofs.Codes.{numbered-none}
 use Rattle.market.proofs.Parts.{carries-accept, carries-refuse}
 use Rattle.invariant.specs.Standing.{Standing}
 use Rattle.invariant.proofs.Sound.{ready-standing}
 use Rattle.pairing.specs.Leaving.{AllLeft, Leavable, emptied}
 use Rattle.pairing.proofs.Leaving.{count-room}
-use Rattle.session.specs.declared.Session.{Session}
-use Rattle.session.specs.declared.Session.the-variants.{Auction, Closing}
-use Rattle.session.specs.Ending.{Endable, Ends, EndsAs, Stands, endOf, endsIn, nextPhase, phaseOf, termsOf}
-use Rattle.session.specs.Collecting.{Collects}
+use Rattle.session.specs.Sessions.{Endable, Ends, EndsAs, Stands, endsIn, nextPhase, phaseOf, startsAt, termsOf}
 
 -- the questions of an end, what it does, and its phase
 end-asks : (z : Session) (d : Day) (n : ℕ)
     → firstNo (questions d n (endOf z)) ≡ firstNo (ask 2 (enoughLent n) ∷ ask 6 (endsIn z (d .phase)) ∷ [])
 unfolding questions
 end-asks Closing d n = refl
-end-asks Auction d n = refl
+end-asks Collecting d n = refl
 
 abbrev endedBy : Session → Day → Result
 endedBy z d = endResult (nextPhase z) (pairsFrom (termsOf z) (d .rules .securities) 0 d)
@@ -45,31 +48,30 @@ endedBy z d = endResult (nextPhase z) (pairsFrom (termsOf z) (d .rules .securiti
 end-effect : (z : Session) (d : Day) → effect d (endOf z) ≡ endedBy z d
 unfolding effect
 end-effect Closing d = refl
-end-effect Auction d = refl
+end-effect Collecting d = refl
 
 ends-phase : (z : Session) (x : Phase) → endsIn z x ≡ true → x ≡ phaseOf z
 ends-phase Closing x e = closing-phase x e
-ends-phase Auction x e = collecting-phase x e
+ends-phase Collecting x e = collecting-phase x e
 
--- the start of collecting
-module _ (x : Phase) (b : OrderBook) where
-  pub collect-shut : isOpen x ≡ false → Collects x b (record { answer = Refused 6 0; phase = x; book = b })
-  unfolding questions
-  collect-shut e = λ r m k g. carries-refuse r x m k b [] startCollecting (g .sound) 6 (omega arith) (rw e)
+-- the questions of a start, and that all orders leave: before an auction none waits
+start-asks : (z : Session) (d : Day) (n : ℕ)
+    → firstNo (questions d n (startOf z)) ≡ firstNo (ask 6 (isOpen (d .phase)) ∷ ask 21 (startsAt z (d .codes)) ∷ [])
+unfolding questions
+start-asks Closing d n = refl
+start-asks Collecting d n = refl
 
-  pub collect-late : isOpen x ≡ true → 0 < b .codes
-      → Collects x b (record { answer = Refused 21 0; phase = x; book = b })
-  unfolding questions
-  collect-late e n = λ r m k g.
-      carries-refuse r x m k b [] startCollecting (g .sound) 21 (omega arith)
-      (rw (e, ne-eqb (b .codes) 0 (λ z. omega arith)))
+none-leave : (d : Day) → d .waiting ≡ [] → d ≡ leaveFirst (length (d .waiting)) d
+unfolding leaveFirst
+none-leave d e = ap (λ (w : List Order). leaveFirst (length w) d) (sym e)
 
-  pub collects : isOpen x ≡ true → b .codes ≤ 0
-      → Collects x b (record { answer = Done 0 0 0 0; phase = phase.Collecting; book = b })
-  unfolding questions effect
-  collects e n = λ r m k g.
-      carries-accept r x m k b [] startCollecting (g .sound) m k [] _ (rw (e, eq-eqb (b .codes) 0 (omega arith)))
-      refl refl refl
+start-effect : (z : Session) (d : Day) → Standing d → startsAt z (d .codes) ≡ true
+    → effect d (startOf z) ≡ zeros (allLeave d (phaseOf z))
+unfolding effect allLeave
+start-effect Closing d st e = refl
+start-effect Collecting d st e =
+    ap (λ (w : Day). zeros (withPhase w phase.Collecting))
+    (none-leave d (numbered-none (given d) (codesOf d) (d .waiting) (st .codes) (eqb-true (d .codes) 0 e)))
 
 module _ {r : Rules} {x : Phase} {m k : List ℕ} {b : OrderBook} (g : Ready r x m k b) where
   abbrev d : Day
@@ -78,18 +80,29 @@ module _ {r : Rules} {x : Phase} {m k : List ℕ} {b : OrderBook} (g : Ready r x
   pub leavable : Leavable (r .table) b m k
   leavable = record { rules = r; phase = x; table = refl; standing = ready-standing g }
 
-  pub start-refused : isOpen x ≡ false
-      → Carries r x m k b [] startClosing m k [] (record { answer = Refused 6 0; phase = x; book = b })
-  unfolding questions
-  start-refused e = carries-refuse r x m k b [] startClosing (g .sound) 6 (omega arith) (rw e)
+  -- the start of a session
+  module _ (z : Session) where
+    pub start-refused : isOpen x ≡ false
+        → Carries r x m k b [] (startOf z) m k [] (record { answer = Refused 6 0; phase = x; book = b })
+    start-refused e =
+        carries-refuse r x m k b [] (startOf z) (g .sound) 6 (omega arith) (start-asks z d 0 ∙ rw e)
 
-  pub started : {m′ k′ : List ℕ} → isOpen x ≡ true → AllLeft (r .table) b m k m′ k′
-      → Carries r x m k b [] startClosing m′ k′ []
-      (record { answer = Done 0 0 0 0; phase = phase.Closing; book = emptied b })
-  unfolding questions effect
-  started {m′} {k′} opens left =
-      carries-accept r x m k b [] startClosing (g .sound) m′ k′ [] _ (rw opens) refl
-      (left r x phase.Closing refl (ready-standing g)) refl
+    module _ (opens : isOpen x ≡ true) where
+      pub start-late : startsAt z (b .codes) ≡ false
+          → Carries r x m k b [] (startOf z) m k [] (record { answer = Refused 21 0; phase = x; book = b })
+      start-late e =
+          carries-refuse r x m k b [] (startOf z) (g .sound) 21 (omega arith) (start-asks z d 0 ∙ rw (opens, e))
+
+      pub started : {m′ k′ : List ℕ} → startsAt z (b .codes) ≡ true → AllLeft (r .table) b m k m′ k′
+          → Carries r x m k b [] (startOf z) m′ k′ []
+          (record { answer = Done 0 0 0 0; phase = phaseOf z; book = emptied b })
+      started {m′} {k′} e left =
+          let st = ready-standing g in
+          let same = start-effect z d st e in
+          carries-accept r x m k b [] (startOf z) (g .sound) m′ k′ [] _ (start-asks z d 0 ∙ rw (opens, e))
+          (sym (ap (λ (w : Result). w .answer) same))
+          (left r x (phaseOf z) refl st ∙ sym (ap (λ (w : Result). w .day) same))
+          (sym (ap (λ (w : Result). written (w .trades) []) same))
 
   -- the end of a session
   module _ (z : Session) (v : List ℕ) where

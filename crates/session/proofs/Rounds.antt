@@ -11,6 +11,8 @@ use Rattle.market.specs.declared.Phase.{Phase}
 use Rattle.market.specs.declared.Security.{Security}
 use Rattle.market.specs.Limits.{maxWaiting, numbersPerTrade}
 use Rattle.market.specs.declared.Rules.{Rules}
+use Rattle.market.specs.declared.Session.{Session}
+use Rattle.market.specs.declared.Session.the-variants.{Closing, Collecting}
 use Rattle.market.specs.Day.{Day, row}
 use Rattle.market.specs.View.{dayOf}
 use Rattle.market.specs.Waiting.{allLeave}
@@ -25,9 +27,7 @@ use Rattle.matching.specs.Written.{tradeWritten}
 use Rattle.matching.proofs.Writing.{written-length, written-next, writtenFrom}
 use Rattle.pairing.specs.Leaving.{AllLeft, emptied}
 use Rattle.pairing.specs.Pairing.{Counts, Meets, PairedAs}
-use Rattle.session.specs.declared.Session.{Session}
-use Rattle.session.specs.declared.Session.the-variants.{Auction, Closing}
-use Rattle.session.specs.Ending.{EndsAs, Stands, cleared, nextPhase, pairedFrom, phaseOf, termsOf, termsWith}
+use Rattle.session.specs.Sessions.{EndsAs, Stands, cleared, nextPhase, pairedFrom, phaseOf, termsOf, termsWith}
 
 -- one list of trades written after another
 written-append : (ts us : List Trade) (n : ℕ) (v : List ℕ) → numbersPerTrade * (n + length ts) ≤ length v
@@ -50,11 +50,11 @@ terms-of : (z : Session) (r : Rules) (x : Phase) (m k : List ℕ) (b : OrderBook
     → termsWith z b s ≡ termsOf z (dayOf r x m k b) s
 unfolding closingTerms auctionTerms
 terms-of Closing r x m k b s = refl
-terms-of Auction r x m k b s = refl
+terms-of Collecting r x m k b s = refl
 
 terms-fair : (z : Session) (d : Day) (s : ℕ) → Standing d → d .phase ≡ phaseOf z → Fair s (termsOf z d s) d
 terms-fair Closing d s st e = closing-fair d s st e
-terms-fair Auction d s st e = auction-fair d s
+terms-fair Collecting d s st e = auction-fair d s
 
 -- m₀, k₀, v₀ and b₀ are money, pieces, lent list and order book at the start; the securities before s are done
 pub record Rounds (z : Session) (r : Rules) (n : ℕ) (m₀ k₀ v₀ : List ℕ) (b₀ : OrderBook) (m k v : List ℕ) (b : OrderBook) (s : ℕ)

@@ -15,6 +15,7 @@ use market::OrderBook;
 use market::Phase;
 use market::Rules;
 use market::Security;
+use market::Session;
 use market::Side;
 use market::Turnover;
 use market::declined;
@@ -30,25 +31,38 @@ ghost use Prim.Native.Nat.{_≤_, _<_};
 ghost use mathlib.Core.Path.{_≡_};
 ghost use mathlib.Core.List.{[]};
 ghost use Rattle.market.specs.Limits.{maxCodes, maxSecurities};
-ghost use Rattle.market.specs.Calls.{closingOrder, startClosing};
+ghost use Rattle.market.specs.Calls.{closingOrder};
 ghost use Rattle.market.specs.Questions.{firstNo};
-ghost use Rattle.market.specs.Parts.{Carries, Ready};
+ghost use Rattle.market.specs.Parts.{Carries, Ready, endOf, startOf};
 ghost use Rattle.matching.specs.Orders.{FewLots, waitingIn};
 ghost use Rattle.waiting.specs.Claims.{Reckonable};
-ghost use Rattle.session.specs.Ending.{Endable, Ends, PairsAll, endOf, endsIn, nextPhase, termsWith};
-ghost use Rattle.session.specs.Collecting.{Collects};
+ghost use Rattle.session.specs.Sessions.{Endable, Ends, PairsAll, endsIn, nextPhase, phaseOf, startsAt, termsWith};
 ghost use Rattle.session.specs.Asking.{Askable, ClosingNo, closingWith, earlyClosing, laterClosing};
-
-// What ends with its orders paired: the closing session, or collecting with its auction.
-pub enum Session {
-    Closing,
-    Auction,
-}
 
 // Which orders meet, and at which price.
 struct Terms {
     limit: Kind,
     price: u64,
+}
+
+// Question 21: collecting starts only where no code has been given.
+fn starts_at(session: Session, codes: u64) -> bool
+    ensures { λ r. ⌜ r ≡ startsAt session codes ⌝ }
+{
+    match session {
+        Session::Closing => true,
+        Session::Collecting => codes == 0,
+    }
+}
+
+// The phase that a session is.
+fn phase_of(session: Session) -> Phase
+    ensures { λ r. ⌜ r ≡ phaseOf session ⌝ }
+{
+    match session {
+        Session::Closing => Phase::Closing,
+        Session::Collecting => Phase::Collecting,
+    }
 }
 
 // May this session end in this phase?
@@ -57,7 +71,7 @@ fn ends_in(session: Session, phase: Phase) -> bool
 {
     match session {
         Session::Closing => is_closing(phase),
-        Session::Auction => is_collecting(phase),
+        Session::Collecting => is_collecting(phase),
     }
 }
 
@@ -67,7 +81,7 @@ fn next_phase(session: Session) -> Phase
 {
     match session {
         Session::Closing => Phase::Closed,
-        Session::Auction => Phase::Open,
+        Session::Collecting => Phase::Open,
     }
 }
 
@@ -84,7 +98,7 @@ fn terms_for(session: Session, book: OrderBook, security: u64) -> Terms
                 price: closing_price(turnover),
             }
         }
-        Session::Auction => {
+        Session::Collecting => {
             let price = price(book, security);
             Terms {
                 limit: Kind::Kept(price),
@@ -255,8 +269,9 @@ pub fn closing_no<'a>(
     later_closing_no(money, pieces, row, turnover, count, codes, o)
 }
 
-// All waiting orders come off, and closing orders may enter.
-pub fn start_closing(
+// A session begins, and all waiting orders come off. Before an auction none waits, since no code has been given.
+pub fn start(
+    session: Session,
     b: OrderBook,
     rules: Rules,
     phase: Phase,
@@ -264,10 +279,13 @@ pub fn start_closing(
     pieces: &mut [u64; 512],
 ) -> Carried
     requires { ⌜ Ready rules phase (now money) (now pieces) b ⌝ }
-    ensures { λ r. ⌜ Carries rules phase (now (money .entry)) (now (pieces .entry)) b [] startClosing (now (money .exit)) (now (pieces .exit)) [] r ⌝ }
+    ensures { λ r. ⌜ Carries rules phase (now (money .entry)) (now (pieces .entry)) b [] (startOf session) (now (money .exit)) (now (pieces .exit)) [] r ⌝ }
 {
     if !is_open(phase) {
         return declined(b, phase, 6);
+    }
+    if !starts_at(session, b.codes) {
+        return declined(b, phase, 21);
     }
     let table = rules.table;
     let mut book = b;
@@ -275,7 +293,7 @@ pub fn start_closing(
     book.count = 0;
     Carried {
         answer: Answer::Done(0, 0, 0, 0),
-        phase: Phase::Closing,
+        phase: phase_of(session),
         book,
     }
 }
@@ -317,23 +335,6 @@ pub fn enter_closing_order(
     let row = table[security as usize];
     let book = append(b, o, row, money, pieces);
     registered(book, phase)
-}
-
-// The phase before an auction: kept orders only wait. Nothing has been registered yet, so none waits.
-pub fn start_collecting(b: OrderBook, phase: Phase) -> Carried
-    ensures { λ r. ⌜ Collects phase b r ⌝ }
-{
-    if !is_open(phase) {
-        return declined(b, phase, 6);
-    }
-    if 0 < b.codes {
-        return declined(b, phase, 21);
-    }
-    Carried {
-        answer: Answer::Done(0, 0, 0, 0),
-        phase: Phase::Collecting,
-        book: b,
-    }
 }
 
 // Orders are paired under the session's terms, the rest come off, and the next phase begins.

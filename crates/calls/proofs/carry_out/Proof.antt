@@ -1,7 +1,7 @@
 -- `calls::carry_out` meets its contract, call by call.
 use borrow.Author.Needs.{needs}
 use Rattle.reserves.proofs.Moving.{movable}
-use Rattle.calls.proofs.Lists.{any-list, cancel-listless, closing-listless, collecting-listless, start-listless}
+use Rattle.calls.proofs.Lists.{any-list, cancel-listless, closing-listless, start-listless}
 use Rattle.calls.proofs.carry_out.Statement.{statement}
 use Rattle.calls.proofs.carry_out.Tie as tie
 
@@ -32,35 +32,23 @@ enum-known-call-4 c = search needs
 group-requires : tie.Need-group-requires
 group-requires c κs = search needs
 
-enum-told : tie.Need-enum-told
-enum-told c = search needs
-
-start-closing-requires : tie.Need-start-closing-requires
-start-closing-requires c κs = search needs
-
 enum-known-call-5 : tie.Need-enum-known-call-5
 enum-known-call-5 c = search needs
+
+start-requires : tie.Need-start-requires
+start-requires c κs = search needs
+
+enum-known-call-6 : tie.Need-enum-known-call-6
+enum-known-call-6 c = search needs
 
 enter-closing-order-requires : tie.Need-enter-closing-order-requires
 enter-closing-order-requires c κs = search needs
 
-enum-told-2 : tie.Need-enum-told-2
-enum-told-2 c = search needs
+enum-known-call-7 : tie.Need-enum-known-call-7
+enum-known-call-7 c = search needs
 
 end-requires : tie.Need-end-requires
 end-requires c κs = search needs
-
-enum-told-3 : tie.Need-enum-told-3
-enum-told-3 c = search needs
-
-start-collecting-requires : tie.Need-start-collecting-requires
-start-collecting-requires c κs = search needs
-
-enum-told-4 : tie.Need-enum-told-4
-enum-told-4 c = search needs
-
-end-requires-2 : tie.Need-end-requires-2
-end-requires-2 c κs = search needs
 
 returns : tie.Need-returns
 returns c =
@@ -90,12 +78,12 @@ returns-4 c =
 
 returns-5 : tie.Need-returns-5
 returns-5 c =
-    rw (c .before .before .before .enum-told .given .1)
-    (any-list _ _ _ _ _ _ _ start-listless _ _ _ (c .start-closing .ensures))
+    let told = c .before .before .before .before .call5 .given in
+    rw (told .1) (any-list _ _ _ _ _ _ _ (start-listless (told .0 .0)) _ _ _ (c .start .ensures))
 
 returns-6 : tie.Need-returns-6
 returns-6 c =
-    rw (c .before .before .before .before .call5 .given .1)
+    rw (c .before .before .before .before .call6 .given .1)
     (any-list _ _ _ _ _ _ _ (closing-listless _ _ _ _) _ _ _ (c .enter-closing-order .ensures))
 
 same-length-3 : tie.Need-same-length-3
@@ -104,21 +92,7 @@ same-length-3 c = search needs
 returns-7 : tie.Need-returns-7
 returns-7 c =
     let k = c .before .before in
-    rw (k .before .before .before .before .enum-told2 .given .1) (k .end .ensures)
-
-returns-8 : tie.Need-returns-8
-returns-8 c =
-    let k = c .before in
-    rw (k .enum-told3 .given .1)
-    (any-list _ _ _ _ _ _ _ collecting-listless _ _ _ (c .start-collecting .ensures _ _ _ (k .before .before .before .pre)))
-
-same-length-4 : tie.Need-same-length-4
-same-length-4 c = search needs
-
-returns-9 : tie.Need-returns-9
-returns-9 c =
-    let k = c .before .before in
-    rw (k .before .before .before .before .enum-told4 .given .1) (k .end2 .ensures)
+    rw (k .before .before .before .before .before .call7 .given .1) (k .end .ensures)
 
 pub carry-out-spec : {M : Type 1} → statement M
 carry-out-spec =
@@ -133,16 +107,12 @@ carry-out-spec =
     cancel-requires
     enum-known-call-4
     group-requires
-    enum-told
-    start-closing-requires
     enum-known-call-5
+    start-requires
+    enum-known-call-6
     enter-closing-order-requires
-    enum-told-2
+    enum-known-call-7
     end-requires
-    enum-told-3
-    start-collecting-requires
-    enum-told-4
-    end-requires-2
     returns
     same-length
     returns-2
@@ -152,7 +122,4 @@ carry-out-spec =
     returns-5
     returns-6
     same-length-3
-    returns-7
-    returns-8
-    same-length-4
-    returns-9)
+    returns-7)

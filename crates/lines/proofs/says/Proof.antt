@@ -93,8 +93,8 @@ array-read-t96 c = search needs
 array-read-t99 : tie.Need-array-read-t99
 array-read-t99 c = search needs
 
-array-read-t104 : tie.Need-array-read-t104
-array-read-t104 c = search needs
+array-read-t105 : tie.Need-array-read-t105
+array-read-t105 c = search needs
 
 array-read-side-of-2 : tie.Need-array-read-side-of-2
 array-read-side-of-2 c = search needs
@@ -102,11 +102,11 @@ array-read-side-of-2 c = search needs
 side-of-requires-2 : tie.Need-side-of-requires-2
 side-of-requires-2 c κs = search needs
 
-array-read-t111 : tie.Need-array-read-t111
-array-read-t111 c = search needs
+array-read-t112 : tie.Need-array-read-t112
+array-read-t112 c = search needs
 
-array-read-t114 : tie.Need-array-read-t114
-array-read-t114 c = search needs
+array-read-t115 : tie.Need-array-read-t115
+array-read-t115 c = search needs
 
 returns : tie.Need-returns
 unfolding rowOf rowIn
@@ -203,11 +203,11 @@ says-spec =
     array-read-t93
     array-read-t96
     array-read-t99
-    array-read-t104
+    array-read-t105
     array-read-side-of-2
     side-of-requires-2
-    array-read-t111
-    array-read-t114
+    array-read-t112
+    array-read-t115
     returns
     returns-2
     returns-3

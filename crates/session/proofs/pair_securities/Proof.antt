@@ -13,7 +13,7 @@ use Rattle.market.specs.Day.{row, noSecurity}
 use Rattle.matching.proofs.Ready.{few-waiting}
 use Rattle.pairing.specs.Pairing.{Counts}
 use Rattle.pairing.proofs.Leaving.{count-room}
-use Rattle.session.specs.Ending.{Stands, cleared, phaseOf}
+use Rattle.session.specs.Sessions.{Stands, cleared, phaseOf}
 use Rattle.session.proofs.Rounds.{Rounds, cleared-stands, counts-start, rounds-end, rounds-meets, rounds-next, rounds-start}
 use Rattle.session.proofs.pair_securities.Statement.{statement}
 use Rattle.session.proofs.pair_securities.Tie as tie

@@ -1,8 +1,8 @@
--- The end of the closing session and the end of collecting, on the parts of a day: what they ask, and what they do.
+-- The closing session and collecting, on the parts of a day: their phases and terms, what their ends ask and do.
 use Prim.Native.Nat.{ℕ, _*_, _≤_}
 use mathlib.Core.Path.{_≡_}
 use mathlib.Core.List.{List}
-use mathlib.Core.Bool.{Bool}
+use mathlib.Core.Bool.{Bool, true}
 use lib.ListN.{length}
 use Rattle.market.specs.declared.Answer.the-variants.{Done}
 use Rattle.market.specs.declared.Kind.the-variants as kind
@@ -11,48 +11,48 @@ use Rattle.market.specs.declared.Phase.{Phase}
 use Rattle.market.specs.declared.Phase.the-variants as phase
 use Rattle.market.specs.declared.Rules.{Rules}
 use Rattle.market.specs.declared.Security.{Security}
+use Rattle.market.specs.declared.Session.{Session}
+use Rattle.market.specs.declared.Session.the-variants.{Closing, Collecting}
 use Rattle.market.specs.Limits.{numbersPerTrade}
+use Rattle.market.specs.Tests.{_=?_}
 use Rattle.market.specs.Day.{Day, turnoverAt}
 use Rattle.market.specs.View.{dayOf}
 use Rattle.market.specs.Needs.{closingPrice}
 use Rattle.market.specs.Sound.{isClosing, isCollecting}
 use Rattle.market.specs.TradeList.{written}
 use Rattle.market.specs.Answers.{Result}
-use Rattle.market.specs.Calls.{Call, endCollecting, endSession}
 use Rattle.market.specs.Pairing.{Paired, Terms, endResult, pairsFrom}
 use Rattle.market.specs.Closing.{closingTerms}
 use Rattle.market.specs.Auction.{auctionPrice, auctionTerms}
 use Rattle.invariant.specs.Standing.{Standing}
 use Rattle.matching.specs.Orders.{waitingIn}
 use Rattle.pairing.specs.Pairing.{PairedAs}
-use Rattle.session.specs.declared.Session.{Session}
-use Rattle.session.specs.declared.Session.the-variants.{Auction, Closing}
 
--- the call that ends a session, the phase in which it ends and whether this is it, and the phase after it
-abbrev pub endOf : Session → Call
-endOf Closing = endSession
-endOf Auction = endCollecting
+-- question 21 of its start, the phase that it is, whether it ends in a phase, and the phase after it
+abbrev pub startsAt : Session → ℕ → Bool
+startsAt Closing codes = true
+startsAt Collecting codes = codes =? 0
 
 abbrev pub phaseOf : Session → Phase
 phaseOf Closing = phase.Closing
-phaseOf Auction = phase.Collecting
+phaseOf Collecting = phase.Collecting
 
 abbrev pub endsIn : Session → Phase → Bool
 endsIn Closing x = isClosing x
-endsIn Auction x = isCollecting x
+endsIn Collecting x = isCollecting x
 
 abbrev pub nextPhase : Session → Phase
 nextPhase Closing = phase.Closed
-nextPhase Auction = phase.Open
+nextPhase Collecting = phase.Open
 
 -- the terms of its pairing, on a day and on an order book
 abbrev pub termsOf : Session → Day → ℕ → Terms
 termsOf Closing = closingTerms
-termsOf Auction = auctionTerms
+termsOf Collecting = auctionTerms
 
 abbrev pub termsWith : Session → OrderBook → ℕ → Terms
 termsWith Closing b s = record { limit = kind.Closing; price = closingPrice (turnoverAt (b .turnover) s) }
-termsWith Auction b s =
+termsWith Collecting b s =
     record { limit = kind.Kept (auctionPrice (waitingIn b) s); price = auctionPrice (waitingIn b) s }
 
 -- the book before the session's end: no lots and trades are counted yet
