@@ -38,7 +38,7 @@ use Rattle.reserves.proofs.Moving.{movable}
 use Rattle.commands.specs.declared.Asked.{Asked}
 use Rattle.commands.specs.declared.Asked.the-variants as verdict
 use Rattle.commands.specs.Command.{Does, carried}
-use Rattle.commands.specs.Asked.{Askable, Asks}
+use Rattle.commands.specs.Asked.{Askable, Asks, WaitsAs}
 use Rattle.commands.proofs.Carrying.{does-call}
 
 module _ (says : Line) (ms : List Ticket) (r : Rules) (x : Phase) (m k : List ℕ) (b : OrderBook) (l : List ℕ)
@@ -129,33 +129,21 @@ module _ (says : Line) (ms : List Ticket) (r : Rules) (x : Phase) (m k : List �
             (cancel-carries r x m k b p c ready place own found m″ k″ b′ (cancels .3)
             (rw (cancels .0, cancels .1) at leaves))))
 
-  -- it is a closing order that passed its questions
+  -- it is an order that passed its questions and only waits
   module _ (m′ k′ : List ℕ) (v : Asked) (o : Order) (w : Security) (h : asks m′ k′ v) (told : v ≡ verdict.Waits o w) where
     waits : asks m′ k′ (verdict.Waits o w)
     waits = subst (asks m′ k′) told h
 
-    clear :
-        let a = waits .2 in
-        firstNo (closingQuestions (dayOf r x m k b) (a .participant) (a .side) (a .security) (a .lots)) ≡ 0
-    clear = sym ((waits .2 .asked) b refl refl refl)
+    placed : WaitsAs says r x m k o w b l ms
+    placed = waits .2 b l ms refl refl refl ready lent
 
     pub can-append : Appendable w b o m′ k′
-    can-append =
-        let a = waits .2 in
-        rw (waits .0, waits .1, a .row)
-        (closing.appendable r x m k b ready (a .participant) (a .side) (a .security) (a .lots) clear (a .entry))
+    can-append = rw (waits .0, waits .1) (placed .able)
 
     pub does-append : (m″ k″ : List ℕ) (b′ : OrderBook) → Appends w b o m′ k′ m″ k″ b′
         → Line-does m″ k″ l
         (record { answer = Done (b′ .codes) (b′ .filled) (b′ .left) (b′ .trades); phase = x; book = b′ })
-    unfolding carried
-    does-append m″ k″ b′ appends =
-        let a = waits .2 in
-        rw (a .said)
-        (does-call r x m k b l _ m″ k″ l _ ready lent
-        (any-list r x m k b l _ (closing-listless (a .participant) (a .side) (a .security) (a .lots)) m″ k″ _
-        (closing.appended r x m k b ready (a .participant) (a .side) (a .security) (a .lots) clear (a .entry) b′
-        (rw (waits .0, waits .1, a .row) at appends))))
+    does-append m″ k″ b′ appends = placed .does m″ k″ b′ (rw (waits .0, waits .1) at appends)
 
   -- it is another call
   module _ (m′ k′ : List ℕ) (v : Asked) (c : code.Call) (h : asks m′ k′ v) (told : v ≡ verdict.Other c) where

@@ -4,12 +4,12 @@ use mathlib.Core.Path.{_≡_}
 use mathlib.Core.List.{List}
 use mathlib.Core.Bool.{false}
 use lib.ListN.{length}
+use Rattle.market.specs.declared.Answer.the-variants.{Done}
 use Rattle.market.specs.declared.Order.{Order}
 use Rattle.market.specs.declared.OrderBook.{OrderBook}
 use Rattle.market.specs.declared.Phase.{Phase}
 use Rattle.market.specs.declared.Rules.{Rules}
 use Rattle.market.specs.declared.Security.{Security}
-use Rattle.market.specs.declared.Side.{Side}
 use Rattle.market.specs.declared.Ticket.{Ticket}
 use Rattle.market.specs.declared.TimeInForce.{TimeInForce}
 use Rattle.market.specs.declared.Turnover.{Turnover}
@@ -23,8 +23,8 @@ use Rattle.lines.specs.declared.Line.{Line}
 use Rattle.lines.specs.declared.Line.the-variants as line
 use Rattle.reserves.specs.Reserve.{Movable}
 use Rattle.orders.specs.Entering.{EntryNo, Known, entryWith}
+use Rattle.waiting.specs.Appending.{Appendable, Appends}
 use Rattle.session.specs.Asking as closing
-use Rattle.session.specs.Asking.{ClosingNo, closingWith}
 use Rattle.commands.specs.declared.Asked.{Asked}
 use Rattle.commands.specs.declared.Asked.the-variants as verdict
 use Rattle.commands.specs.Command.{Does, carried}
@@ -46,17 +46,20 @@ pub record Admits (says : Line) (r : Rules) (x : Phase) (t : List Turnover) (cou
   pub matched : isCollecting x ≡ false
   pub asked : EntryNo r x t count codes m k participant ticket f 0
 
--- a closing order whose questions are all answered "yes", as it comes to wait
-pub record AdmitsClosing (says : Line) (r : Rules) (x : Phase) (t : List Turnover) (count codes : ℕ) (m k : List ℕ)
-    (o : Order) (l : Security) : Type 0 where
-  pub participant : ℕ
-  pub side : Side
-  pub security : ℕ
-  pub lots : ℕ
-  pub said : says ≡ line.Call (call.ClosingOrder participant side security lots)
-  pub entry : o ≡ closingWith codes participant side security lots
-  pub row : l ≡ row r security
-  pub asked : ClosingNo r x t count codes m k participant side security lots 0
+-- an order whose questions are all answered "yes" and that only waits, on this order book and with this list lent: it can
+-- be appended, and that is what the line does
+pub record WaitsAs (says : Line) (r : Rules) (x : Phase) (m k : List ℕ) (o : Order) (w : Security) (b : OrderBook)
+    (l : List ℕ) (ms : List Ticket) : Type 0 where
+  pub able : Appendable w b o m k
+  pub does : (m′ k′ : List ℕ) (b′ : OrderBook) → Appends w b o m k m′ k′ b′
+      → Does (carried (dayOf r x m k b) says ms) r l m′ k′ l
+      (record { answer = Done (b′ .codes) (b′ .filled) (b′ .left) (b′ .trades); phase = x; book = b′ })
+
+-- so on every order book with this turnover, count and codes with which the day is sound
+abbrev pub Waits : Line → Rules → Phase → List Turnover → ℕ → ℕ → (m k : List ℕ) → Order → Security → Type 0
+Waits says r x t count codes m k o w =
+    (b : OrderBook) (l : List ℕ) (ms : List Ticket) → b .turnover ≡ t → b .count ≡ count → b .codes ≡ codes
+    → Ready r x m k b → length l ≡ lentAtLeast → WaitsAs says r x m k o w b l ms
 
 -- by what comes of it: the answer of the line, whatever the order book and the lent list; or positions as they were
 abbrev pub Asks : Line → Rules → Phase → List Turnover → ℕ → ℕ → (m k m′ k′ : List ℕ) → Asked → Type 0
@@ -69,5 +72,5 @@ Asks says r x t count codes m k m′ k′ (verdict.Enters e l f) =
 Asks says r x t count codes m k m′ k′ (verdict.Cancels p c) =
     (m′ ≡ m) × (k′ ≡ k) × (says ≡ line.Call (call.Cancel p c)) × (p < r .participants)
 Asks says r x t count codes m k m′ k′ (verdict.Waits o l) =
-    (m′ ≡ m) × (k′ ≡ k) × AdmitsClosing says r x t count codes m k o l
+    (m′ ≡ m) × (k′ ≡ k) × Waits says r x t count codes m k o l
 Asks says r x t count codes m k m′ k′ (verdict.Other c) = (m′ ≡ m) × (k′ ≡ k) × (says ≡ line.Call c)

@@ -74,7 +74,7 @@ pub enum Asked {
     Enters(Order, Security, TimeInForce),
     // A cancellation by a known participant, and the code.
     Cancels(u64, u64),
-    // A closing order whose questions are all answered "yes", with the row of its security.
+    // A closing order, or a kept one while collecting, whose questions are all answered "yes", with the row of its security.
     Waits(Order, Security),
     // Any other call.
     Other(Call),
@@ -94,7 +94,7 @@ pub fn put_command(out: &mut [u8], at: usize, line: u64, answer: Answer, trades:
     }
 }
 
-// An order's questions 4 to 14. While collecting, which no line of a day file begins, it is carried out as any other call.
+// An order's questions 4 to 14. While collecting, which no line of a day file begins, it only waits.
 fn order_asked<'a>(
     rules: Rules,
     phase: Phase,
@@ -110,9 +110,6 @@ fn order_asked<'a>(
     requires { ⌜ Known rules codes ⌝ }
     ensures { λ r. ⌜ Asks (line.Call (call.Order participant ticket force)) rules phase turnovers count codes (now (money .entry)) (now (pieces .entry)) (now (money .entry)) (now (pieces .entry)) r ⌝ }
 {
-    if is_collecting(phase) {
-        return Asked::Other(Call::Order(participant, ticket, force));
-    }
     let number = order_no(
         rules,
         phase,
@@ -131,6 +128,9 @@ fn order_asked<'a>(
     let table = rules.table;
     let row = table[ticket.security as usize];
     let entry = entry_of(codes, participant, ticket);
+    if is_collecting(phase) {
+        return Asked::Waits(entry, row);
+    }
     Asked::Enters(entry, row, force)
 }
 

@@ -1,7 +1,7 @@
 -- From the questions and the entry of an order on the parts of a sound day to the contract of the call.
 use Prim.Native.Nat.{ℕ, _≤_, _<_}
 use native.Mathlib.Omega.{arith}
-use mathlib.Core.Path.{_≡_, ap, sym, _∙_}
+use mathlib.Core.Path.{_≡_, refl, ap, sym, _∙_, subst}
 use mathlib.Core.List.{List}
 use mathlib.Core.Bool.{true, false}
 use lib.ListN.{length}
@@ -24,7 +24,8 @@ use Rattle.market.specs.Questions.{Question, entryQuestions, firstNo, questions
 use Rattle.market.specs.Entry.{entered, placed, taken}
 use Rattle.market.specs.Step.{effect}
 use Rattle.market.specs.Parts.{Carries, Ready}
-use Rattle.market.proofs.Entry.{taken-matched, taken-waits}
+use Rattle.market.proofs.Questions.{all-yes, yes}
+use Rattle.market.proofs.Entry.{enters-kept, taken-matched, taken-waits}
 use Rattle.market.proofs.Parts.{carries-accept, carries-refuse}
 use Rattle.invariant.specs.Standing.{Standing}
 use Rattle.invariant.proofs.Sound.{ready-standing}
@@ -71,6 +72,12 @@ module _ (r : Rules) (x : Phase) (m k : List ℕ) (b : OrderBook) (ready : Ready
       pub refuse-first : (n : ℕ) → 0 < n → n ≡ firstNo asked → declines n
       refuse-first n h e =
           carries-refuse r x m k b v call (ready .sound) n h (from-four ∙ answered.no-first r x m k b standing p t f n h e)
+
+      -- while collecting, question 15 is not asked
+      pub collects-whole : firstNo asked ≡ 0 → isCollecting x ≡ true → (e : Order) → fillableIn f (waitingIn b) e ≡ true
+      collects-whole none collects e =
+          let kept = enters-kept f x (yes 6 asked (all-yes asked tt none)) collects in
+          subst (λ (g : TimeInForce). fillableIn g (waitingIn b) e ≡ true) (sym kept) refl
 
       module _ (none : firstNo asked ≡ 0) {e : Order} (entry : e ≡ entryWith (b .codes) p t) where
         pub refuse-whole : fillableIn f (waitingIn b) e ≡ false → declines 15

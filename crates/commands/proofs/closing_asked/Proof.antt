@@ -1,13 +1,13 @@
 -- `commands::closing_asked` meets its contract: refused by its first "no", or as it comes to wait.
-use Prim.Native.Nat.{_<_}
+use Prim.Native.Nat.{ℕ, _<_}
 use native.Mathlib.Omega.{arith}
-use mathlib.Core.Path.{refl}
+use mathlib.Core.Path.{refl, ap, sym, _∙_}
 use borrow.Author.Needs.{needs}
 use Rattle.market.specs.Limits.{maxSecurities}
 use Rattle.commands.specs.Command.{carried}
 use Rattle.calls.proofs.Lists.{any-list, closing-listless}
-use Rattle.session.specs.Asking.{ClosingNo}
-use Rattle.session.proofs.Asking.{refuse}
+use Rattle.session.specs.Asking.{ClosingNo, closingWith}
+use Rattle.session.proofs.Asking.{appendable, appended, refuse}
 use Rattle.commands.proofs.Carrying.{closing-listed, closing-none, does-call}
 use Rattle.commands.proofs.closing_asked.Statement.{statement}
 use Rattle.commands.proofs.closing_asked.Tie as tie
@@ -50,21 +50,23 @@ closing-order-requires : tie.Need-closing-order-requires
 closing-order-requires c κs = search needs
 
 returns-2 : tie.Need-returns-2
+unfolding carried
 returns-2 c =
     let e = c .before .before .before in
     let a = e .before .before .args in (
       refl,
       refl,
-      record {
-        participant = a .participant;
-        side = a .side;
-        security = a .security;
-        lots = a .lots;
-        said = refl;
-        entry = c .closing-order .ensures;
-        row = refl;
-        asked = none e;
-      },
+      λ b l ms e1 e2 e3 ready n.
+          let clear = sym (none e b e1 e2 e3) in
+          let entry = c .closing-order .ensures
+          ∙ ap (λ (i : ℕ). closingWith i (a .participant) (a .side) (a .security) (a .lots)) (sym e3) in
+          record {
+            able = appendable _ _ _ _ b ready (a .participant) (a .side) (a .security) (a .lots) clear entry;
+            does = λ m′ k′ b′ appends.
+                does-call _ _ _ _ b l _ m′ k′ l _ ready n
+                (any-list _ _ _ _ b l _ (closing-listless (a .participant) (a .side) (a .security) (a .lots)) m′ k′ _
+                (appended _ _ _ _ b ready (a .participant) (a .side) (a .security) (a .lots) clear entry b′ appends));
+          },
     )
 
 pub closing-asked-spec : {M : Type 1} → statement M
