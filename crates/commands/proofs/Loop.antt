@@ -20,7 +20,7 @@ use Rattle.market.specs.Limits.{lentAtLeast, maxSecurities}
 use Rattle.market.specs.Day.{row}
 use Rattle.market.specs.View.{dayOf}
 use Rattle.market.specs.Waiting.{indexOf}
-use Rattle.market.specs.Questions.{closingQuestions, entryQuestions, firstNo}
+use Rattle.market.specs.Questions.{entryQuestions, firstNo}
 use Rattle.market.specs.Parts.{Carries, Ready, callOf}
 use Rattle.lines.specs.declared.Line.{Line}
 use Rattle.matching.specs.Orders.{waitingIn}
@@ -33,7 +33,7 @@ use Rattle.orders.proofs.Cancelling.{cancel-carries, cancel-none, found-known, 
 use Rattle.orders.proofs.Calling.{enterable, order-enters, refuse-whole, rules-known}
 use Rattle.waiting.specs.Appending.{Appendable, Appends}
 use Rattle.session.proofs.Asking as closing
-use Rattle.calls.proofs.Lists.{any-list, cancel-listless, closing-listless}
+use Rattle.calls.proofs.Lists.{any-list, cancel-listless}
 use Rattle.reserves.proofs.Moving.{movable}
 use Rattle.commands.specs.declared.Asked.{Asked}
 use Rattle.commands.specs.declared.Asked.the-variants as verdict

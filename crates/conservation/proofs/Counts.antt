@@ -17,7 +17,7 @@ use Rattle.market.specs.TradeList.{Trade, allNumbers, written}
 use Rattle.market.specs.Answers.{Result, numbersOf}
 use Rattle.market.specs.Calls.{Call, cancel, closingOrder, decrease, endCollecting, endSession, entryOf, increase}
 use Rattle.market.specs.Calls.{linked, order, startClosing, startCollecting}
-use Rattle.market.specs.Questions.{ask, enoughLent, firstNo, orderQuestions, questions}
+use Rattle.market.specs.Questions.{enoughLent, firstNo, orderQuestions, questions}
 use Rattle.market.specs.Matching.{fill}
 use Rattle.market.specs.Entry.{admitted, entered, placed, taken}
 use Rattle.market.specs.Linked.{Group, groupResult, members, passed, stopped}

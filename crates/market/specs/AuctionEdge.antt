@@ -1,5 +1,4 @@
 -- The auction at its edges (T-02; lot 10, step 5): computed on the definition, as one joint theorem.
-use Prim.Native.Nat.{ℕ}
 use mathlib.Core.Path.{_≡_, refl}
 use mathlib.Core.List.{List, [], _∷_}
 use lib.ListN.{take}

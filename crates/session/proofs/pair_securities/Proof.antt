@@ -5,7 +5,6 @@ use native.Mathlib.Omega.{arith}
 use mathlib.Core.Path.{_≡_, ap, refl, _∙_}
 use mathlib.Core.List.{List}
 use lib.ListN.{getD, length}
-use borrow.Author.Needs.{needs}
 use Rattle.market.specs.declared.Security.{Security}
 use Rattle.market.specs.Limits.{maxSecurities}
 use Rattle.market.specs.declared.Rules.{Rules}
