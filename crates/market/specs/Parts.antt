@@ -37,7 +37,7 @@ bookOf s = record {
   trades = 0;
 }
 
--- the call that the code's stands for; a group's members stand beside it
+-- the call that a move of reserves stands for
 abbrev pub moveOf : Move → Call
 moveOf (moved.IncreaseMoney p c a) = increase Money p c a
 moveOf (moved.DecreaseMoney p c a) = decrease Money p c a
@@ -53,6 +53,7 @@ abbrev pub endOf : Session → Call
 endOf session.Closing = endSession
 endOf session.Collecting = endCollecting
 
+-- the call that the code's stands for; a group's members stand beside it
 abbrev pub callOf : code.Call → List Ticket → Call
 callOf (coded.Reserve move) ms = moveOf move
 callOf (coded.Order p m force) ms = order p m force
