@@ -3,7 +3,7 @@ use Prim.Native.Nat.{ℕ, zero, suc, _*_, _≤_}
 use native.Mathlib.Omega.{arith}
 use mathlib.Core.Path.{_≡_, refl}
 use mathlib.Core.List.{List, [], _∷_}
-use mathlib.Core.Bool.{Bool, true, false, cond}
+use mathlib.Core.Bool.{Bool, true, false}
 use lib.ListN.{length, take, drop, length-append, length-drop}
 use borrow.Author.Tests.{leb-true}
 use Rattle.market.specs.declared.Order.{Order}
@@ -28,7 +28,7 @@ use Rattle.market.specs.Step.{allQuestions, answerBy, effect, result}
 use Rattle.market.proofs.Logic.{within-high}
 use Rattle.market.proofs.Questions.{all-yes, first-yes, yes, yes-rest}
 use Rattle.market.proofs.Known.{closing-phase, collecting-phase}
-use Rattle.market.proofs.Entry.{enters-open, taken-matched, taken-waits}
+use Rattle.market.proofs.Entry.{enters-open, taken-either, taken-matched, taken-waits}
 use Rattle.conservation.specs.Book.{Book}
 use Rattle.conservation.specs.SoundKept.{mostTrades}
 use Rattle.conservation.proofs.Good.{Good}
@@ -121,15 +121,11 @@ result-few b d c l g = go (firstNo (allQuestions d (length l) c)) refl
 
 -- the answer counts the trades
 effect-counts : (d : Day) (c : Call) → (numbersOf ((effect d c) .answer)) .trades ≡ length ((effect d c) .trades)
-unfolding effect entered placed taken
+unfolding effect entered placed
 effect-counts d (increase x p column a) = refl
 effect-counts d (decrease x p column a) = refl
-effect-counts d (order p m k) = go (isCollecting (d .phase))
-  where
-    go : (z : Bool) → let x : Result = cond z (placed d (entryOf d p m)) (entered d (entryOf d p m) k) in
-        (numbersOf (x .answer)) .trades ≡ length (x .trades)
-    go true = refl
-    go false = refl
+effect-counts d (order p m k) =
+    taken-either (λ (x : Result). (numbersOf (x .answer)) .trades ≡ length (x .trades)) d (entryOf d p m) k refl refl
 effect-counts d (cancel p code) = refl
 effect-counts d (linked p n ms) = go (members 1 d p (take n ms))
   where

@@ -1,6 +1,6 @@
 -- Laws of an order's entry by phase: while open it is matched, while collecting a kept one only waits.
-use mathlib.Core.Path.{_≡_, refl, sym}
-use mathlib.Core.Bool.{true, false}
+use mathlib.Core.Path.{_≡_, refl, sym, subst}
+use mathlib.Core.Bool.{Bool, true, false}
 use Rattle.market.specs.declared.Order.{Order}
 use Rattle.market.specs.declared.Phase.{Phase}
 use Rattle.market.specs.declared.Phase.the-variants.{Closed, Closing, Collecting, Open}
@@ -8,6 +8,7 @@ use Rattle.market.specs.declared.TimeInForce.{TimeInForce}
 use Rattle.market.specs.declared.TimeInForce.the-variants.{FillOrKill, ImmediateOrCancel, Kept}
 use Rattle.market.specs.Day.{Day}
 use Rattle.market.specs.Sound.{isCollecting, isOpen}
+use Rattle.market.specs.Answers.{Result}
 use Rattle.market.specs.Questions.{entersIn}
 use Rattle.market.specs.Entry.{entered, placed, taken}
 use Rattle.market.proofs.Logic.{never}
@@ -46,3 +47,12 @@ taken-matched d e k n = rw n
 pub taken-waits : (d : Day) (e : Order) (k : TimeInForce) → isCollecting (d .phase) ≡ true → taken d e k ≡ placed d e
 unfolding taken
 taken-waits d e k c = rw c
+
+-- what holds of both holds of an accepted order
+pub taken-either : (P : Result → Type 0) (d : Day) (e : Order) (k : TimeInForce) → P (placed d e) → P (entered d e k)
+    → P (taken d e k)
+taken-either P d e k waits matched = go (isCollecting (d .phase)) refl
+  where
+    go : (z : Bool) → isCollecting (d .phase) ≡ z → P (taken d e k)
+    go true c = subst P (sym (taken-waits d e k c)) waits
+    go false c = subst P (sym (taken-matched d e k c)) matched
