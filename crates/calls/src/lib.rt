@@ -22,8 +22,8 @@ pub fn carry_out(
     phase: Phase,
     call: Call,
     members: [Ticket; 8],
-    money: &mut [u64; 512],
-    pieces: &mut [u64; 512],
+    money: &mut [u64; 544],
+    pieces: &mut [u64; 544],
     trades: &mut [u64],
 ) -> Carried
     requires { ⌜ Ready rules phase (now money) (now pieces) b ⌝ }

@@ -13,15 +13,14 @@ use Rattle.market.specs.declared.Order.{Order}
 use Rattle.market.specs.declared.OrderBook.{OrderBook}
 use Rattle.market.specs.declared.Phase.{Phase}
 use Rattle.market.specs.declared.Rules.{Rules}
-use Rattle.market.specs.declared.Security.{Security}
+use Rattle.market.specs.declared.Listing.{Listing}
 use Rattle.market.specs.declared.Ticket.{Ticket}
 use Rattle.market.specs.declared.TimeInForce.{TimeInForce}
 use Rattle.market.specs.Limits.{lentAtLeast, maxSecurities}
-use Rattle.market.specs.Day.{row}
 use Rattle.market.specs.View.{dayOf}
 use Rattle.market.specs.Waiting.{indexOf}
 use Rattle.market.specs.Questions.{entryQuestions, firstNo}
-use Rattle.market.specs.Parts.{Carries, Ready, callOf}
+use Rattle.market.specs.Parts.{Carries, Ready, callOf, listing}
 use Rattle.lines.specs.declared.Line.{Line}
 use Rattle.matching.specs.Orders.{waitingIn}
 use Rattle.waiting.specs.Leaving.{Leavable, Leaves}
@@ -62,7 +61,7 @@ module _ (says : Line) (ms : List Ticket) (r : Rules) (x : Phase) (m k : List �
   does-answered m′ k′ v a h e = (subst (asks m′ k′) e h) b l ms refl refl refl ready lent
 
   -- it is an order that passed its questions 4 to 14
-  module _ (m′ k′ : List ℕ) (v : Asked) (e : Order) (w : Security) (f : TimeInForce) (h : asks m′ k′ v)
+  module _ (m′ k′ : List ℕ) (v : Asked) (e : Order) (w : Listing) (f : TimeInForce) (h : asks m′ k′ v)
       (told : v ≡ verdict.Enters e w f) where
     admits : asks m′ k′ (verdict.Enters e w f)
     admits = subst (asks m′ k′) told h
@@ -83,7 +82,7 @@ module _ (says : Line) (ms : List Ticket) (r : Rules) (x : Phase) (m k : List �
       pub can-enter : Enterable w b e f m′ k′ l
       can-enter =
           let a = admits .2 in
-          rw (admits .0, admits .1, a .row)
+          rw (admits .0, admits .1, a .listing)
           (enterable r x m k b ready (a .participant) (a .ticket) f l (omega (arith, lent)) none (a .entry) whole (a .matched))
 
       pub does-enter : (m″ k″ l″ : List ℕ) (b′ : OrderBook) → Enters w b e f m′ k′ l m″ k″ l″ b′
@@ -95,7 +94,7 @@ module _ (says : Line) (ms : List Ticket) (r : Rules) (x : Phase) (m k : List �
           rw (a .said)
           (does-call r x m k b l _ m″ k″ l″ _ ready lent
           (order-enters r x m k b ready (a .participant) (a .ticket) f l (omega (arith, lent)) none (a .entry) whole (a .matched) m″ k″ l″ b′
-          (rw (admits .0, admits .1, a .row) at enters)))
+          (rw (admits .0, admits .1, a .listing) at enters)))
 
   -- it is a cancellation by a known participant
   module _ (m′ k′ : List ℕ) (v : Asked) (p c : ℕ) (h : asks m′ k′ v) (told : v ≡ verdict.Cancels p c) where
@@ -116,10 +115,10 @@ module _ (says : Line) (ms : List Ticket) (r : Rules) (x : Phase) (m k : List �
         pub known-security : s < maxSecurities
         known-security = found-known r x m k b p c ready place own found
 
-        pub can-leave : Leavable (row r s) b i m′ k′
+        pub can-leave : Leavable (listing r s) b i m′ k′
         can-leave = rw (cancels .0, cancels .1) (found-leaves r x m k b p c ready place own found)
 
-        pub does-cancel : (m″ k″ : List ℕ) (b′ : OrderBook) → Leaves (row r s) b i m′ k′ m″ k″ b′
+        pub does-cancel : (m″ k″ : List ℕ) (b′ : OrderBook) → Leaves (listing r s) b i m′ k′ m″ k″ b′
             → Line-does m″ k″ l (record { answer = Done c 0 0 0; phase = x; book = b′ })
         unfolding carried
         does-cancel m″ k″ b′ leaves =
@@ -130,7 +129,7 @@ module _ (says : Line) (ms : List Ticket) (r : Rules) (x : Phase) (m k : List �
             (rw (cancels .0, cancels .1) at leaves))))
 
   -- it is an order that passed its questions and only waits
-  module _ (m′ k′ : List ℕ) (v : Asked) (o : Order) (w : Security) (h : asks m′ k′ v) (told : v ≡ verdict.Waits o w) where
+  module _ (m′ k′ : List ℕ) (v : Asked) (o : Order) (w : Listing) (h : asks m′ k′ v) (told : v ≡ verdict.Waits o w) where
     waits : asks m′ k′ (verdict.Waits o w)
     waits = subst (asks m′ k′) told h
 

@@ -9,16 +9,15 @@ use Rattle.market.specs.declared.Order.{Order}
 use Rattle.market.specs.declared.OrderBook.{OrderBook}
 use Rattle.market.specs.declared.Phase.{Phase}
 use Rattle.market.specs.declared.Rules.{Rules}
-use Rattle.market.specs.declared.Security.{Security}
+use Rattle.market.specs.declared.Listing.{Listing}
 use Rattle.market.specs.declared.Ticket.{Ticket}
 use Rattle.market.specs.declared.TimeInForce.{TimeInForce}
 use Rattle.market.specs.declared.Turnover.{Turnover}
 use Rattle.market.specs.declared.Call.the-variants as call
 use Rattle.market.specs.Limits.{lentAtLeast}
-use Rattle.market.specs.Day.{row}
 use Rattle.market.specs.View.{dayOf}
 use Rattle.market.specs.Sound.{isCollecting}
-use Rattle.market.specs.Parts.{Ready}
+use Rattle.market.specs.Parts.{Ready, listing}
 use Rattle.lines.specs.declared.Line.{Line}
 use Rattle.lines.specs.declared.Line.the-variants as line
 use Rattle.reserves.specs.Reserve.{Movable}
@@ -37,18 +36,18 @@ pub record Askable (r : Rules) (t : List Turnover) (codes : ℕ) (m k : List ℕ
 
 -- an order whose questions 4 to 14 are answered "yes" while nothing is collected, as it enters
 pub record Admits (says : Line) (r : Rules) (x : Phase) (t : List Turnover) (count codes : ℕ) (m k : List ℕ) (e : Order)
-    (l : Security) (f : TimeInForce) : Type 0 where
+    (l : Listing) (f : TimeInForce) : Type 0 where
   pub participant : ℕ
   pub ticket : Ticket
   pub said : says ≡ line.Call (call.Order participant ticket f)
   pub entry : e ≡ entryWith codes participant ticket
-  pub row : l ≡ row r (ticket .security)
+  pub listing : l ≡ listing r (ticket .security)
   pub matched : isCollecting x ≡ false
   pub asked : EntryNo r x t count codes m k participant ticket f 0
 
 -- an order whose questions are all answered "yes" and that only waits, on this order book and with this list lent: it can
 -- be appended, and that is what the line does
-pub record WaitsAs (says : Line) (r : Rules) (x : Phase) (m k : List ℕ) (o : Order) (w : Security) (b : OrderBook)
+pub record WaitsAs (says : Line) (r : Rules) (x : Phase) (m k : List ℕ) (o : Order) (w : Listing) (b : OrderBook)
     (l : List ℕ) (ms : List Ticket) : Type 0 where
   pub able : Appendable w b o m k
   pub does : (m′ k′ : List ℕ) (b′ : OrderBook) → Appends w b o m k m′ k′ b′
@@ -56,7 +55,7 @@ pub record WaitsAs (says : Line) (r : Rules) (x : Phase) (m k : List ℕ) (o : O
       (record { answer = Done (b′ .codes) (b′ .filled) (b′ .left) (b′ .trades); phase = x; book = b′ })
 
 -- so on every order book with this turnover, count and codes with which the day is sound
-abbrev pub Waits : Line → Rules → Phase → List Turnover → ℕ → ℕ → (m k : List ℕ) → Order → Security → Type 0
+abbrev pub Waits : Line → Rules → Phase → List Turnover → ℕ → ℕ → (m k : List ℕ) → Order → Listing → Type 0
 Waits says r x t count codes m k o w =
     (b : OrderBook) (l : List ℕ) (ms : List Ticket) → b .turnover ≡ t → b .count ≡ count → b .codes ≡ codes
     → Ready r x m k b → length l ≡ lentAtLeast → WaitsAs says r x m k o w b l ms

@@ -5,11 +5,11 @@ use heading::MALFORMED;
 use lines::Line;
 use market::Answer;
 use market::Call;
+use market::Listing;
 use market::Order;
 use market::OrderBook;
 use market::Phase;
 use market::Rules;
-use market::Security;
 use market::Side;
 use market::Ticket;
 use market::TimeInForce;
@@ -70,12 +70,13 @@ pub enum Asked {
     // Answered: a malformed line or one out of its place, a move of reserves, an order or a closing order refused by
     // questions 4 to 14, a cancellation refused by question 4.
     Answered(Answer),
-    // An order whose questions 4 to 14 are answered "yes", with the row of its security.
-    Enters(Order, Security, TimeInForce),
+    // An order whose questions 4 to 14 are answered "yes", with the listing of its security.
+    Enters(Order, Listing, TimeInForce),
     // A cancellation by a known participant, and the code.
     Cancels(u64, u64),
-    // A closing order, or a kept one while collecting, whose questions are all answered "yes", with the row of its security.
-    Waits(Order, Security),
+    // A closing order, or a kept one while collecting, whose questions are all answered "yes", with its security's
+    // listing.
+    Waits(Order, Listing),
     // Any other call.
     Other(Call),
 }
@@ -101,8 +102,8 @@ fn order_asked<'a>(
     turnovers: [Turnover; 16],
     count: usize,
     codes: u64,
-    money: &'a [u64; 512],
-    pieces: &'a [u64; 512],
+    money: &'a [u64; 544],
+    pieces: &'a [u64; 544],
     participant: u64,
     ticket: Ticket,
     force: TimeInForce,
@@ -127,11 +128,15 @@ fn order_asked<'a>(
     }
     let table = rules.table;
     let row = table[ticket.security as usize];
+    let listing = Listing {
+        row,
+        rate: rules.rate,
+    };
     let entry = entry_of(codes, participant, ticket);
     if is_collecting(phase) {
-        return Asked::Waits(entry, row);
+        return Asked::Waits(entry, listing);
     }
-    Asked::Enters(entry, row, force)
+    Asked::Enters(entry, listing, force)
 }
 
 // A closing order's questions.
@@ -141,8 +146,8 @@ fn closing_asked<'a>(
     turnovers: [Turnover; 16],
     count: usize,
     codes: u64,
-    money: &'a [u64; 512],
-    pieces: &'a [u64; 512],
+    money: &'a [u64; 544],
+    pieces: &'a [u64; 544],
     participant: u64,
     side: Side,
     security: u64,
@@ -169,8 +174,12 @@ fn closing_asked<'a>(
     }
     let table = rules.table;
     let row = table[security as usize];
+    let listing = Listing {
+        row,
+        rate: rules.rate,
+    };
     let o = closing_order(codes, participant, side, security, lots);
-    Asked::Waits(o, row)
+    Asked::Waits(o, listing)
 }
 
 fn without_orders(
@@ -180,8 +189,8 @@ fn without_orders(
     turnovers: [Turnover; 16],
     count: usize,
     codes: u64,
-    money: &mut [u64; 512],
-    pieces: &mut [u64; 512],
+    money: &mut [u64; 544],
+    pieces: &mut [u64; 544],
 ) -> Asked
     requires { ⌜ Askable rules turnovers codes (now money) (now pieces) ⌝ }
     ensures { λ r. ⌜ Asks says rules phase turnovers count codes (now (money .entry)) (now (pieces .entry)) (now (money .exit)) (now (pieces .exit)) r ⌝ }
@@ -248,8 +257,8 @@ pub fn commands(
     text: &[u8],
     from: Stand,
     rules: Rules,
-    money: &mut [u64; 512],
-    pieces: &mut [u64; 512],
+    money: &mut [u64; 544],
+    pieces: &mut [u64; 544],
     out: &mut [u8],
 ) -> Stand
     requires { ⌜ Going (now text) rules (now money) (now pieces) from ⌝ }
@@ -282,9 +291,9 @@ pub fn commands(
             Asked::Answered(known) => {
                 answer = known;
             }
-            Asked::Enters(entry, row, force) => {
+            Asked::Enters(entry, listing, force) => {
                 if is_fillable(book, force, entry) {
-                    book = enter(book, entry, force, row, money, pieces, &mut trades);
+                    book = enter(book, entry, force, listing, money, pieces, &mut trades);
                     answer = Answer::Done(book.codes, book.filled, book.left, book.trades);
                 }
             }
@@ -293,12 +302,16 @@ pub fn commands(
                 let found = find(book, participant, code);
                 if let Found::At(index, security) = found {
                     let row = table[security as usize];
-                    book = leave(book, index, row, money, pieces);
+                    let listing = Listing {
+                        row,
+                        rate: rules.rate,
+                    };
+                    book = leave(book, index, listing, money, pieces);
                     answer = Answer::Done(code, 0, 0, 0);
                 }
             }
-            Asked::Waits(o, row) => {
-                book = append(book, o, row, money, pieces);
+            Asked::Waits(o, listing) => {
+                book = append(book, o, listing, money, pieces);
                 answer = Answer::Done(book.codes, book.filled, book.left, book.trades);
             }
             Asked::Other(call) => {

@@ -1,96 +1,209 @@
 -- Positions of money or of pieces against the book's balances: one law for both.
 use Prim.Native.Nat.{ℕ, _+_, _<_}
 use native.Mathlib.Omega.{arith}
-use mathlib.Core.Path.{_≡_, refl, sym, subst, _∙_}
+use mathlib.Core.Path.{_≡_, refl, ap, sym, subst, _∙_}
 use mathlib.Core.List.{List}
-use mathlib.Core.Bool.{Bool, true, false}
+use mathlib.Core.Bool.{Bool, true, false, cond}
 use lib.ListN.{length, set, length-set}
 use lib.Seq.{getD-set-same, getD-set-other}
 use lib.Dec.{eqb}
 use borrow.Author.Tests.{eqb-true, eqb-false}
-use Rattle.market.specs.Limits.{cells}
+use Rattle.market.specs.Limits.{cells, market}
 use Rattle.market.specs.declared.Rules.{Rules}
-use Rattle.market.specs.Day.{Position, blockedAt, cell, position}
+use Rattle.market.specs.Day.{Position, account, blockedAt, cell, position}
+use Rattle.market.specs.Needs.{only}
 use Rattle.market.specs.Positions.{change, receive, total}
-use Rattle.market.proofs.Amounts.{changed-other, changed-same, length-change, still}
+use Rattle.market.proofs.Amounts.{change-law, length-change, only-add, only-zero, still}
+use Rattle.market.proofs.Totals.{account-same, other-place}
 use Rattle.invariant.specs.Standing.{Held}
-use Rattle.invariant.proofs.Held.{held-inside, held-cell}
+use Rattle.invariant.proofs.Held.{held-cell, held-inside, held-market, held-member}
 use Rattle.conservation.specs.Book.{Balance, add, balance, noBalance, sub}
 
--- m and l agree in the first n columns
+-- m and l agree in the first n columns, of each participant and of the market
 pub record Balanced (r : Rules) (n : ℕ) (m : List ℕ) (l : List Balance) : Type 0 where
   pub balances : length l ≡ cells
   pub agree : (p c : ℕ) → p < r .participants → c < n
       → total (position m (cell p c)) + (balance l (cell p c)) .out ≡ (balance l (cell p c)) .into
+  pub account : (c : ℕ) → c < n
+      → account m c + (balance l (cell market c)) .out ≡ (balance l (cell market c)) .into
 
--- one position and one balance set alike
-agree-set : (m : List ℕ) (l : List Balance) (i j : ℕ) (f : Position → Position) (x : Balance)
-    → blockedAt i < length m → i < length l → total (f (position m i)) + x .out ≡ x .into
-    → total (position m j) + (balance l j) .out ≡ (balance l j) .into
-    → total (position (change m i f) j) + (balance (set l i x) j) .out ≡ (balance (set l i x) j) .into
-agree-set m l i j f x im il new old = go (eqb i j) refl
+-- from balances l to l′ so much came in and went out in each cell
+pub record Flows (l l′ : List Balance) (came went : ℕ → ℕ) : Type 0 where
+  pub size : length l′ ≡ length l
+  pub into : (k : ℕ) → (balance l′ k) .into ≡ (balance l k) .into + came k
+  pub out : (k : ℕ) → (balance l′ k) .out ≡ (balance l k) .out + went k
+
+-- one balance set: a measure of it grows by a
+balance-set : (g : Balance → ℕ) (l : List Balance) (j k : ℕ) (x : Balance) (a : ℕ) → j < length l
+    → g x ≡ g (balance l j) + a → g (balance (set l j x) k) ≡ g (balance l k) + only j k a
+unfolding only
+balance-set g l j k x a h e = go (eqb j k) refl
   where
-    Agrees : Position → Balance → Type 0
-    Agrees p y = total p + y .out ≡ y .into
-
-    go : (k : Bool) → eqb i j ≡ k → Agrees (position (change m i f) j) (balance (set l i x) j)
+    go : (z : Bool) → eqb j k ≡ z → g (balance (set l j x) k) ≡ g (balance l k) + cond z a 0
     go true q =
-        subst (λ (k : ℕ). Agrees (position (change m i f) k) (balance (set l i x) k)) (eqb-true i j q)
-        (subst (λ (p : Position). Agrees p (balance (set l i x) i)) (sym (changed-same m i f im))
-        (subst (λ (y : Balance). Agrees (f (position m i)) y) (sym (getD-set-same l i x noBalance il)) new))
-    go false q =
-        subst (λ (p : Position). Agrees p (balance (set l i x) j)) (sym (changed-other m i j f (eqb-false i j q)))
-        (subst (λ (y : Balance). Agrees (position m j) y)
-        (sym (getD-set-other l i j x noBalance (λ r. eqb-false i j q (sym r)))) old)
+        subst (λ (i : ℕ). g (balance (set l j x) i) ≡ g (balance l i) + a) (eqb-true j k q)
+        (ap g (getD-set-same l j x noBalance h) ∙ e)
+    go false q = omega (arith, ap g (getD-set-other l j k x noBalance (λ z. eqb-false j k q (sym z))))
+
+pub flows-none : (l : List Balance) → Flows l l (λ k. 0) (λ k. 0)
+flows-none l = record { size = refl; into = λ k. omega arith; out = λ k. omega arith }
+
+module _ {l l′ : List Balance} {came went : ℕ → ℕ} (f : Flows l l′ came went) (j a : ℕ) (h : j < length l) where
+  inside : j < length l′
+  inside = omega (arith, f .size)
+
+  -- then a comes in, or goes out, in cell j
+  pub flows-add : Flows l (add l′ j a) (λ k. came k + only j k a) went
+  flows-add =
+      let x : Balance = record { into = (balance l′ j) .into + a; out = (balance l′ j) .out } in
+      record {
+        size = length-set l′ j x ∙ f .size;
+        into = λ k. omega (arith, balance-set (λ (y : Balance). y .into) l′ j k x a inside refl, f .into k);
+        out = λ k.
+            omega (arith, balance-set (λ (y : Balance). y .out) l′ j k x 0 inside (omega arith), only-zero j k, f .out k);
+      }
+
+  pub flows-sub : Flows l (sub l′ j a) came (λ k. went k + only j k a)
+  flows-sub =
+      let x : Balance = record { into = (balance l′ j) .into; out = (balance l′ j) .out + a } in
+      record {
+        size = length-set l′ j x ∙ f .size;
+        into = λ k.
+            omega (arith, balance-set (λ (y : Balance). y .into) l′ j k x 0 inside (omega arith), only-zero j k, f .into k);
+        out = λ k. omega (arith, balance-set (λ (y : Balance). y .out) l′ j k x a inside refl, f .out k);
+      }
 
 module _ {r : Rules} {n limit : ℕ} {m : List ℕ} {need : ℕ → ℕ} {l : List Balance} (h : Held r n limit m need)
     (b : Balanced r n m l) where
+  -- positions m′ that moved as the balances did
+  rebalanced : (m′ : List ℕ) {l′ : List Balance} {came went : ℕ → ℕ} → Flows l l′ came went
+      → ((p c : ℕ) → p < r .participants → c < n
+      → total (position m′ (cell p c)) + went (cell p c) ≡ total (position m (cell p c)) + came (cell p c))
+      → ((c : ℕ) → c < n → account m′ c + went (cell market c) ≡ account m c + came (cell market c))
+      → Balanced r n m′ l′
+  rebalanced m′ f members own = record {
+    balances = f .size ∙ b .balances;
+    agree = λ p c hp hc.
+        omega (arith, f .into (cell p c), f .out (cell p c), members p c hp hc, b .agree p c hp hc);
+    account = λ c hc.
+        omega (arith, f .into (cell market c), f .out (cell market c), own c hc, b .account c hc);
+  }
+
+  -- the place of a known cell, and of the market's, among the balances
+  placed : (q e : ℕ) → q < r .participants → e < n → cell q e < length l
+  placed q e hq he = omega (arith, held-cell h q e hq he, b .balances)
+
+  market-placed : (e : ℕ) → e < n → cell market e < length l
+  market-placed e he = omega (arith, h .wide, b .balances)
+
+  -- a participant's place is not the market's
+  apart : (q e c a : ℕ) → q < r .participants → e < n → c < n → only (cell q e) (cell market c) a ≡ 0
+  apart q e c a hq he hc =
+      other-place q e market c a (omega (arith, h .wide)) (omega (arith, h .wide)) (λ x y. omega (arith, h .rows))
+
+  apart-too : (q e c a : ℕ) → q < r .participants → e < n → c < n → only (cell market e) (cell q c) a ≡ 0
+  apart-too q e c a hq he hc =
+      other-place market e q c a (omega (arith, h .wide)) (omega (arith, h .wide)) (λ x y. omega (arith, h .rows))
+
   -- in a known cell, the total stays
   pub balanced-same : (q e : ℕ) (f : Position → Position) → q < r .participants → e < n
       → total (f (position m (cell q e))) ≡ total (position m (cell q e)) → Balanced r n (change m (cell q e) f) l
-  balanced-same q e f hq he same = record {
-    balances = b .balances;
-    agree = λ p c hp hc.
-        let a = still total m (cell q e) f (held-inside h q e hq he) same (cell p c) in
-        omega (arith, a, b .agree p c hp hc);
-  }
+  balanced-same q e f hq he same =
+      rebalanced (change m (cell q e) f) (flows-none l)
+      (λ p c hp hc. omega (arith, still total m (cell q e) f (held-inside h q e hq he) same (cell p c)))
+      (λ c hc. omega (arith, account-same m (cell q e) c f (held-member h q e hq he)))
 
-  -- free amount and balance move alike
-  pub balanced-move : (q e : ℕ) (f : Position → Position) (x : Balance) → q < r .participants → e < n
-      → total (f (position m (cell q e))) + x .out ≡ x .into
-      → Balanced r n (change m (cell q e) f) (set l (cell q e) x)
-  balanced-move q e f x hq he new =
-      let k : cell q e < length l = omega (arith, held-cell h q e hq he, b .balances) in
-      record {
-        balances = length-set l (cell q e) x ∙ b .balances;
-        agree = λ p c hp hc.
-            agree-set m l (cell q e) (cell p c) f x (held-inside h q e hq he) k new (b .agree p c hp hc);
-      }
+  -- a free amount comes in, or goes out, and the balance with it
+  pub balanced-add : (q e a : ℕ) (f : Position → Position) → q < r .participants → e < n
+      → total (f (position m (cell q e))) ≡ total (position m (cell q e)) + a
+      → Balanced r n (change m (cell q e) f) (add l (cell q e) a)
+  balanced-add q e a f hq he gets =
+      let i = cell q e in
+      rebalanced (change m i f) (flows-add (flows-none l) i a (placed q e hq he))
+      (λ p c hp hc.
+      let t = change-law total m i (cell p c) f 0 a (held-inside h q e hq he) (omega arith) in
+      omega (arith, t, only-zero i (cell p c)))
+      (λ c hc. omega (arith, account-same m i c f (held-member h q e hq he), apart q e c a hq he hc))
 
-  -- between two known places of one column: the first pays cost in the way f, the second gets it
-  pub balanced-transfer : (q s e : ℕ) (f : Position → Position) (cost : ℕ) → q < r .participants → s < r .participants → e < n
-      → total (f (position m (cell q e))) + cost ≡ total (position m (cell q e))
-      → Balanced r n (change (change m (cell q e) f) (cell s e) (receive cost))
-      (add (sub l (cell q e) cost) (cell s e) cost)
-  balanced-transfer q s e f cost hq hs he pays =
-      let i = held-inside h q e hq he in
-      let k : cell q e < length l = omega (arith, held-cell h q e hq he, b .balances) in
-      let m1 = change m (cell q e) f in
-      let x : Balance = record { into = (balance l (cell q e)) .into; out = (balance l (cell q e)) .out + cost } in
-      let l1 = sub l (cell q e) cost in
-      let i2 : blockedAt (cell s e) < length m1 =
-      omega (arith, held-inside h s e hs he, length-change m (cell q e) f) in
-      let k2 : cell s e < length l1 =
-      omega (arith, held-cell h s e hs he, b .balances, length-set l (cell q e) x) in
-      let x2 : Balance = record {
-        into = (balance l1 (cell s e)) .into + cost;
-        out = (balance l1 (cell s e)) .out;
-      } in
-      let paid : total (f (position m (cell q e))) + x .out ≡ x .into = omega (arith, pays, b .agree q e hq he) in
-      let before = agree-set m l (cell q e) (cell s e) f x i k paid (b .agree s e hs he) in
-      record {
-        balances = length-set l1 (cell s e) x2 ∙ length-set l (cell q e) x ∙ b .balances;
-        agree = λ p c hp hc.
-            agree-set m1 l1 (cell s e) (cell p c) (receive cost) x2 i2 k2 (omega (arith, before))
-            (agree-set m l (cell q e) (cell p c) f x i k paid (b .agree p c hp hc));
-      }
+  pub balanced-sub : (q e a : ℕ) (f : Position → Position) → q < r .participants → e < n
+      → total (f (position m (cell q e))) + a ≡ total (position m (cell q e))
+      → Balanced r n (change m (cell q e) f) (sub l (cell q e) a)
+  balanced-sub q e a f hq he pays =
+      let i = cell q e in
+      rebalanced (change m i f) (flows-sub (flows-none l) i a (placed q e hq he))
+      (λ p c hp hc.
+      let t = change-law total m i (cell p c) f a 0 (held-inside h q e hq he) (omega arith) in
+      omega (arith, t, only-zero i (cell p c)))
+      (λ c hc. omega (arith, account-same m i c f (held-member h q e hq he), apart q e c a hq he hc))
+
+  -- of two known places of one column the first pays cost in the way f, the second gets a gain
+  module _ (q s e : ℕ) (f : Position → Position) (cost gain : ℕ) (hq : q < r .participants) (hs : s < r .participants)
+      (he : e < n) (pays : total (f (position m (cell q e))) + cost ≡ total (position m (cell q e))) where
+    abbrev paid : List ℕ
+    paid = change m (cell q e) f
+
+    abbrev after : List ℕ
+    after = change paid (cell s e) (receive gain)
+
+    inside-paid : blockedAt (cell s e) < length paid
+    inside-paid = omega (arith, held-inside h s e hs he, length-change m (cell q e) f)
+
+    moved : (j : ℕ) → total (position after j) + only (cell q e) j cost ≡ total (position m j) + only (cell s e) j gain
+    moved j =
+        omega (
+          arith,
+          change-law total m (cell q e) j f cost 0 (held-inside h q e hq he) (omega arith),
+          change-law total paid (cell s e) j (receive gain) 0 gain inside-paid (omega arith),
+          only-zero (cell q e) j,
+          only-zero (cell s e) j,
+        )
+
+    unmoved : (c : ℕ) → account after c ≡ account m c
+    unmoved c =
+        account-same paid (cell s e) c (receive gain) (held-member h s e hs he)
+        ∙ account-same m (cell q e) c f (held-member h q e hq he)
+
+    -- all that one pays, the other gets
+    pub balanced-transfer : gain ≡ cost → Balanced r n after (add (sub l (cell q e) cost) (cell s e) gain)
+    balanced-transfer all =
+        rebalanced after
+        (flows-add (flows-sub (flows-none l) (cell q e) cost (placed q e hq he)) (cell s e) gain (placed s e hs he))
+        (λ p c hp hc. omega (arith, moved (cell p c)))
+        (λ c hc. omega (arith, unmoved c, apart q e c cost hq he hc, apart s e c gain hs he hc))
+
+    -- the sum goes from the first to the second, and each pays the fee to the market
+    pub balanced-fees : (sum fee : ℕ) → cost ≡ sum + fee → gain + fee ≡ sum
+        → Balanced r n (change after (cell market e) (receive (fee + fee)))
+        (add (sub (sub (add (sub l (cell q e) sum) (cell s e) sum) (cell q e) fee) (cell s e) fee) (cell market e)
+        (fee + fee))
+    balanced-fees sum fee costs gains =
+        let i = cell q e in
+        let j = cell s e in
+        let k = cell market e in
+        let kq = placed q e hq he in
+        let ks = placed s e hs he in
+        let inside-market : blockedAt k < length after =
+        omega (arith, held-market h e he, length-change paid j (receive gain), length-change m i f) in
+        rebalanced (change after k (receive (fee + fee)))
+        (flows-add (flows-sub (flows-sub (flows-add (flows-sub (flows-none l) i sum kq) j sum ks) i fee kq) j fee ks) k
+        (fee + fee) (market-placed e he))
+        (λ p c hp hc.
+        let x = cell p c in
+        let t = change-law total after k x (receive (fee + fee)) 0 (fee + fee) inside-market (omega arith) in
+        let whole = ap (only i x) costs ∙ only-add i x sum fee in
+        let share = sym (only-add j x gain fee) ∙ ap (only j x) gains in
+        omega (arith, moved x, t, whole, share, only-zero k x, apart-too p e c (fee + fee) hp he hc))
+        (λ c hc.
+        let x = cell market c in
+        let t = change-law (λ (y : Position). y .free) after k x (receive (fee + fee)) 0 (fee + fee) inside-market
+        (omega arith) in
+        omega (
+          arith,
+          unmoved c,
+          t,
+          only-zero k x,
+          apart q e c sum hq he hc,
+          apart q e c fee hq he hc,
+          apart s e c sum hs he hc,
+          apart s e c fee hs he hc,
+        ))

@@ -9,7 +9,7 @@ use Rattle.market.specs.declared.Answer.{Answer}
 use Rattle.market.specs.declared.Order.{Order}
 use Rattle.market.specs.declared.Phase.the-variants.{Open}
 use Rattle.market.specs.declared.State.{State}
-use Rattle.market.specs.Limits.{columns, maxSecurities, cells, positionNumbers}
+use Rattle.market.specs.Limits.{cells, columns, market, maxSecurities, positionNumbers}
 use Rattle.market.specs.Tests.{sumOf}
 use Rattle.market.specs.declared.Rules.{Rules}
 use Rattle.market.specs.Day.{Asset, Day, Money, Pieces, blockedAt, columnsOf, freeAt, noOrder, noTurnover, orderAt}
@@ -86,6 +86,9 @@ opened-good r ok = record {
           let free = same-all {A = ℕ} positionNumbers (freeAt (cell p c)) 0 in
           let blocked = same-all {A = ℕ} positionNumbers (blockedAt (cell p c)) 0 in
           rw (same-all cells (cell p c) noBalance) (omega arith);
+      account = λ c hc.
+          let free = same-all {A = ℕ} positionNumbers (freeAt (cell market c)) 0 in
+          rw (same-all cells (cell market c) noBalance) (omega arith);
     }
 
     balanced : (x : Asset) → Balanced r (columnsOf x r) (positions x (opened r)) (balances x emptyBook)
@@ -104,6 +107,7 @@ agrees : {r : Rules} (b : Book) (d : Day) → Good (Unit {0}) r b d → Agrees r
 agrees {r} b d g = record {
   rules = sym rules;
   balanced = λ x p c hp hc. (g .agree .balanced x) .agree p c (rw (← rules) hp) (known x c hc);
+  account = λ c hc. (g .agree .balanced Money) .account c (known Money c hc);
   blocked = λ x p c hp hc. (g .standing .backed .held x) .blocked p c (rw (← rules) hp) (known x c hc) ∙ sym (needs x (cell p c));
   waiting = sym (g .waiting);
   turnover = sym (g .agree .turnover);

@@ -14,9 +14,9 @@ use Rattle.market.specs.Questions.{isFree, totalFits}
 use Rattle.market.specs.Step.{moved}
 use Rattle.market.proofs.Totals.{raised, total-falls}
 use Rattle.conservation.specs.Book.{Balance, Book, add, balances, sub, withBalances}
-use Rattle.invariant.proofs.Held.{held-inside}
+use Rattle.invariant.proofs.Held.{held-inside, held-member}
 use Rattle.invariant.proofs.Backed.{standing-moved}
-use Rattle.conservation.proofs.Balanced.{Balanced, balanced-move}
+use Rattle.conservation.proofs.Balanced.{Balanced, balanced-add, balanced-sub}
 use Rattle.conservation.proofs.Good.{Good}
 
 -- in a known cell
@@ -61,10 +61,9 @@ module _ {U : Type 0} {r : Rules} (x : Asset) (b : Book) (d : Day) (p column a :
       let m = positions x d in
       let top = leb-true (totalAt (d .rules .participants) m column + a) (totalLimit x) e in
       moved-good (receive a) _ refl
-      (balanced-move h (g .agree .balanced x) p column (receive a) _ hp hc
-      (omega (arith, (g .agree .balanced x) .agree p column hp hc)))
+      (balanced-add h (g .agree .balanced x) p column a (receive a) hp hc (omega arith))
       (λ k hk.
-      raised (d .rules .participants) p column a (totalLimit x) m hp (omega (arith, h .wide))
+      raised (d .rules .participants) p column a (totalLimit x) m (h .rows) hp (omega (arith, h .wide))
       (held-inside h p column hp hc) top k (omega (arith, h .wide)) (h .topped k hk))
 
   pub decrease-good : isFree x d p column a ≡ true
@@ -75,8 +74,8 @@ module _ {U : Type 0} {r : Rules} (x : Asset) (b : Book) (d : Day) (p column a :
       let m = positions x d in
       let has = leb-true a ((position m at) .free) e in
       moved-good (draw a) _ refl
-      (balanced-move h (g .agree .balanced x) p column (draw a) _ hp hc
-      (omega (arith, has, (g .agree .balanced x) .agree p column hp hc)))
+      (balanced-sub h (g .agree .balanced x) p column a (draw a) hp hc (omega (arith, has)))
       (λ k hk.
-      let t = total-falls (d .rules .participants) k m at (draw a) a (held-inside h p column hp hc) (omega arith) in
+      let t = total-falls (d .rules .participants) k m at (draw a) a (held-member h p column hp hc)
+      (held-inside h p column hp hc) (omega arith) in
       omega (arith, t, h .topped k hk))

@@ -3,9 +3,11 @@ use Prim.Native.Nat.{ℕ, zero, suc, _+_, _≤_, _<_}
 use native.Mathlib.Omega.{arith}
 use mathlib.Core.Path.{_≡_, refl, ap, subst}
 use mathlib.Core.List.{List, [], _∷_}
-use mathlib.Core.Bool.{true}
+use mathlib.Core.Bool.{true, cond}
 use lib.ListN.{length}
-use Rattle.market.specs.Limits.{columns, cells}
+use borrow.Author.Tests.{le-ltb, lt-ltb}
+use Rattle.market.specs.Limits.{cells, columns, market}
+use Rattle.market.specs.Tests.{_<?_}
 use Rattle.market.specs.declared.Rules.{Rules}
 use Rattle.market.specs.Day.{Asset, Day, Money, Pieces, columnsOf, cell, position, positions}
 use Rattle.market.specs.View.{Sized}
@@ -22,10 +24,14 @@ use Rattle.conservation.proofs.Good.{Good}
 pub good-sound : {U : Type 0} {r : Rules} (b : Book) (d : Day) → Good U r b d → sound d ≡ true
 good-sound b d g = standing-sound d (g .standing)
 
+-- what a balance counts in a cell: all of a participant's, of the market's what is free
+abbrev amountIn : List ℕ → ℕ → ℕ
+amountIn l j = cond (j <? cell market 0) (total (position l j)) ((position l j) .free)
+
 -- the book that a day would have: all that is there came in; of n places from j on
 unfoldable pub totals : ℕ → ℕ → List ℕ → List Balance
 totals zero j l = []
-totals (suc n) j l = record { into = total (position l j); out = 0 } ∷ totals n (suc j) l
+totals (suc n) j l = record { into = amountIn l j; out = 0 } ∷ totals n (suc j) l
 
 abbrev pub bookOf : Day → Book
 bookOf d = record {
@@ -37,12 +43,12 @@ bookOf d = record {
 }
 
 totals-at : (n j i k : ℕ) (l : List ℕ) → k ≡ j + i → i < n
-    → total (position l k) + (balance (totals n j l) i) .out ≡ (balance (totals n j l) i) .into
+    → amountIn l k + (balance (totals n j l) i) .out ≡ (balance (totals n j l) i) .into
 unfolding totals
 totals-at zero j i k l e h = absurd (omega arith)
 totals-at (suc n) j zero k l e h =
     let same : j ≡ k = omega arith in
-    subst (λ (x : ℕ). total (position l x) + 0 ≡ total (position l j)) same (omega arith)
+    subst (λ (x : ℕ). amountIn l x + 0 ≡ amountIn l j) same (omega arith)
 totals-at (suc n) j (suc i) k l e h = totals-at n (suc j) i k l (omega arith) (omega arith)
 
 totals-length : (n j : ℕ) (l : List ℕ) → length (totals n j l) ≡ n
@@ -54,7 +60,11 @@ totals-balanced : (r : Rules) (n : ℕ) (m : List ℕ) → RulesOk r → n ≤ c
 totals-balanced r n m ok wide = record {
   balances = totals-length cells 0 m;
   agree = λ p c hp hc.
-      totals-at cells 0 (cell p c) (cell p c) m (omega arith) (omega (arith, ok .participants));
+      let at = totals-at cells 0 (cell p c) (cell p c) m (omega arith) (omega (arith, ok .participants)) in
+      rw (lt-ltb (cell p c) (cell market 0) (omega (arith, ok .participants))) at at;
+  account = λ c hc.
+      let at = totals-at cells 0 (cell market c) (cell market c) m (omega arith) (omega arith) in
+      rw (le-ltb (cell market c) (cell market 0) (omega arith)) at at;
 }
 
 -- a sound day is good against a book of its own

@@ -20,7 +20,7 @@ ghost use Rattle.dayfile.specs.Run.{Begins, Fills, Going, Prints, TooLon
 
 const TOO_LONG: u64 = 20;
 
-const MAX_TEXT: usize = 65536;
+pub const MAX_TEXT: usize = 65536;
 
 // What a command, or the last positions, take of the buffer at most.
 pub const ROOM: usize = commands::ROOM;
@@ -84,7 +84,7 @@ pub fn resume(text: &[u8], from: Run, out: &mut [u8]) -> Run
     r
 }
 
-fn is_done(answer: Answer) -> bool
+pub fn is_done(answer: Answer) -> bool
     ensures { λ r. ⌜ r ≡ isDone answer ⌝ }
 {
     match answer {

@@ -5,6 +5,7 @@ use market::Answer;
 use market::Call;
 use market::Move;
 use market::Outcome;
+use market::Rules;
 use market::Security;
 use market::Session;
 use market::Side;
@@ -29,10 +30,17 @@ pub fn opening(
     currencies: u64,
     securities: u64,
     table: [Security; 16],
+    rate: u64,
 ) -> Outcome
-    ensures { λ r. ⌜ Opens (record { participants = participants; currencies = currencies; securities = securities; table = table }) r ⌝ }
+    ensures { λ r. ⌜ Opens (record { participants = participants; currencies = currencies; securities = securities; table = table; rate = rate }) r ⌝ }
 {
-    opening::opening(participants, currencies, securities, table)
+    opening::opening(Rules {
+        participants,
+        currencies,
+        securities,
+        table,
+        rate,
+    })
 }
 
 // The places of a group's members, where there is no group.

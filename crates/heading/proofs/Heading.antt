@@ -2,7 +2,7 @@
 use Prim.Native.Nat.{ℕ, zero, suc, _+_, _≤_, _<_}
 use native.Mathlib.Numerals.{add-one}
 use native.Mathlib.Omega.{arith}
-use mathlib.Core.Path.{_≡_, refl, ap, sym, _∙_}
+use mathlib.Core.Path.{_≡_, refl, ap, sym, subst, _∙_}
 use mathlib.Core.List.{List, []}
 use mathlib.Core.Bool.{Bool, true, false, cond}
 use lib.ListN.{drop}
@@ -10,10 +10,12 @@ use types.Run.{miss}
 use Rattle.market.specs.declared.Outcome.{Outcome}
 use Rattle.market.specs.declared.Rules.{Rules}
 use Rattle.market.specs.Limits.{maxSecurities}
+use Rattle.market.specs.Tests.{_=?_}
 use Rattle.market.specs.Day.{row}
 use Rattle.market.specs.Sound.{countsSound, rowSound, rulesSound, sound}
 use Rattle.market.specs.Answers.{isDone, numbersOf}
-use Rattle.market.specs.Opening.{firstWrong, opening, openingBy}
+use Rattle.market.specs.Questions.{firstNo}
+use Rattle.market.specs.Opening.{firstWrong, opening, openingBy, openingQuestions, wrongLine}
 use Rattle.market.specs.Contract.{Opens}
 use Rattle.market.proofs.Logic.{and-true, never, within-low}
 use Rattle.market.proofs.Opening.{accepted}
@@ -26,8 +28,8 @@ use Rattle.reading.specs.Commands.{Reads}
 use Rattle.reading.proofs.Tags.{OtherLine, otherLines}
 use Rattle.heading.specs.declared.Headed as code
 use Rattle.heading.specs.declared.Securities.{Securities}
-use Rattle.heading.specs.Heading.{Headed, ReadsHeading, ReadsSecurities, WrongHeading, fault, headedBy}
-use Rattle.heading.specs.Heading.{heading, linesIn, openedBy, read}
+use Rattle.heading.specs.Heading.{Headed, ReadsAs, ReadsHeading, ReadsLines, ReadsSecurities, WrongHeading}
+use Rattle.heading.specs.Heading.{fault, headedBy, heading, linesIn, noTable, openedBy, read, securitiesFrom}
 use Rattle.heading.proofs.SecurityLines.{lines-fault}
 
 -- the place of an opening's refusal is one of its securities
@@ -42,14 +44,15 @@ wrong-within r (suc n) s = go (rowSound (r .currencies) (row r s)) (wrong-within
 
 opening-place : (r : Rules) → (numbersOf ((opening r) .answer)) .place ≤ r .securities
 unfolding opening
-opening-place r =
-    go (countsSound (r .participants) (r .currencies) (r .securities)) (firstWrong r (r .securities) 0)
-    (omega (arith, wrong-within r (r .securities) 0))
+opening-place r = go (firstNo (openingQuestions r))
   where
-    go : (b : Bool) (n : ℕ) → n ≤ r .securities → (numbersOf ((openingBy r b n) .answer)) .place ≤ r .securities
-    go false n h = omega arith
-    go true zero h = omega arith
-    go true (suc n) h = h
+    placed : (b : Bool) → cond b (wrongLine r) 0 ≤ r .securities
+    placed true = omega (arith, wrong-within r (r .securities) 0)
+    placed false = omega arith
+
+    go : (n : ℕ) → (numbersOf ((openingBy r n) .answer)) .place ≤ r .securities
+    go zero = omega arith
+    go (suc n) = placed (suc n =? 18)
 
 pub place-small : {r : Rules} {o : Outcome} → Opens r o → (numbersOf (o .answer)) .place ≤ r .securities
 place-small {r} opens = rw (opens .answer) (opening-place r)
@@ -76,12 +79,12 @@ no-heading (line.Security a b c) t h = refl
 no-heading (line.Member m) t h = refl
 no-heading line.Malformed t h = refl
 
-reads-fault : {text : List ℕ} {n : ℕ} {r : code.Headed} → heading text ≡ fault n → WrongHeading n r
-    → ReadsHeading text r
-reads-fault {text} {n} {r} e w = record {
-  line = w .line ∙ ap (λ (h : Headed). h .line) (sym e);
-  answer = w .answer ∙ ap (λ (h : Headed). h .answer) (sym e);
-  day = w .day ∙ ap (λ (h : Headed). h .day) (sym e);
+reads-fault : {h : Headed} {text : List ℕ} {n : ℕ} {r : code.Headed} → h ≡ fault n → WrongHeading n r
+    → ReadsAs h text r
+reads-fault {h} {text} {n} {r} e w = record {
+  line = w .line ∙ ap (λ (x : Headed). x .line) (sym e);
+  answer = w .answer ∙ ap (λ (x : Headed). x .answer) (sym e);
+  day = w .day ∙ ap (λ (x : Headed). x .day) (sym e);
   rest = λ done. never (refuses done);
   next = λ done. never (refuses done);
   inside = λ done. never (refuses done);
@@ -100,35 +103,42 @@ module _ {text : List ℕ} {first : Reading} (reads : Reads text 0 first) where
   pub heading-other : {r : code.Headed} → OtherLine headingTag (first .says) → WrongHeading 1 r → ReadsHeading text r
   heading-other other w = reads-fault (heading-reads ∙ no-heading (first .says) _ other) w
 
-  module _ {p c s : ℕ} (e : first .says ≡ line.Heading p c s) {lines : Securities}
-      (l : ReadsSecurities text (first .next) s lines) where
-    heading-lines : heading text ≡ openedBy p c s (linesIn (lines .fault) (lines .table) (drop (lines .next) text))
-    heading-lines = heading-reads ∙ rw (e, l .lines)
+  -- an `H` line, and what its `S` lines come to
+  pub heading-is : {p c s : ℕ} {r : code.Headed} → first .says ≡ line.Heading p c s
+      → ReadsLines text (first .next) p c s 0 r → ReadsHeading text r
+  heading-is {p} {c} {s} {r} e h = subst (λ (x : Headed). ReadsAs x text r) (sym (heading-reads ∙ rw e)) h
 
-    pub heading-fault : {r : code.Headed} → (lines .fault ≡ 0 → ⊥) → WrongHeading (lines .fault) r
-        → ReadsHeading text r
-    heading-fault some w =
-        reads-fault (heading-lines ∙ ap (openedBy p c s) (lines-fault (lines .fault) (lines .table) _ some)) w
+-- the `S` lines from `from` on
+module _ (p c rate : ℕ) {text : List ℕ} {from s : ℕ} {lines : Securities} (l : ReadsSecurities text from s lines) where
+  abbrev whole : Headed
+  whole = openedBy p c s rate (securitiesFrom s 0 noTable (drop from text))
 
-    abbrev rules : Rules
-    rules = record { participants = p; currencies = c; securities = s; table = lines .table }
+  heading-lines : whole ≡ openedBy p c s rate (linesIn (lines .fault) (lines .table) (drop (lines .next) text))
+  heading-lines = ap (openedBy p c s rate) (sym (l .lines))
 
-    module _ (none : lines .fault ≡ 0) {o : Outcome} (opens : Opens rules o) where
-      pub heading-opens : {place : ℕ} → place ≡ (numbersOf (o .answer)) .place
-          → ReadsHeading text (record { outcome = o; line = place + 1; next = s + 2; at = lines .next })
-      heading-opens {place} same =
-          let h : heading text ≡ openedBy p c s (read (lines .table) (drop (lines .next) text)) =
-          heading-lines ∙ rw none in
-          record {
-            line = rw (h, same, opens .answer) (add-one _);
-            answer = rw h (opens .answer);
-            day = rw h (opens .state);
-            rest = λ done. rw h;
-            next = λ done. rw h;
-            inside = λ done. l .inside none (opening-some rules (accepts done));
-            sound = λ done. rw (opens .state) (opening-sound rules (accepts done));
-            few = λ done. omega (arith, (accepted rules (accepts done)) .rules .securities);
-          }
-        where
-          accepts : isDone (o .answer) ≡ true → isDone ((opening rules) .answer) ≡ true
-          accepts done = rw (opens .answer) at done
+  pub lines-wrong : {r : code.Headed} → (lines .fault ≡ 0 → ⊥) → WrongHeading (lines .fault) r
+      → ReadsLines text from p c s rate r
+  lines-wrong some w =
+      reads-fault (heading-lines ∙ ap (openedBy p c s rate) (lines-fault (lines .fault) (lines .table) _ some)) w
+
+  abbrev rules : Rules
+  rules = record { participants = p; currencies = c; securities = s; table = lines .table; rate = rate }
+
+  module _ (none : lines .fault ≡ 0) {o : Outcome} (opens : Opens rules o) where
+    pub lines-open : {place : ℕ} → place ≡ (numbersOf (o .answer)) .place
+        → ReadsLines text from p c s rate (record { outcome = o; line = place + 1; next = s + 2; at = lines .next })
+    lines-open {place} same =
+        let h : whole ≡ openedBy p c s rate (read (lines .table) (drop (lines .next) text)) = heading-lines ∙ rw none in
+        record {
+          line = rw (h, same, opens .answer) (add-one _);
+          answer = rw h (opens .answer);
+          day = rw h (opens .state);
+          rest = λ done. rw h;
+          next = λ done. rw h;
+          inside = λ done. l .inside none (opening-some rules (accepts done));
+          sound = λ done. rw (opens .state) (opening-sound rules (accepts done));
+          few = λ done. omega (arith, (accepted rules (accepts done)) .rules .securities);
+        }
+      where
+        accepts : isDone (o .answer) ≡ true → isDone ((opening rules) .answer) ≡ true
+        accepts done = rw (opens .answer) at done

@@ -67,16 +67,16 @@ abbrev pub noTable : List Security
 noTable = replicate maxSecurities noSecurity
 
 -- "forms come first, then 17, then 18", 17 "on line 1", 18 on the line of its place
-abbrev pub openedBy : ℕ → ℕ → ℕ → Lines → Headed
-openedBy p c s (wrong n) = fault n
-openedBy p c s (read table t) =
-    let r = opening (record { participants = p; currencies = c; securities = s; table = table }) in
+abbrev pub openedBy : ℕ → ℕ → ℕ → ℕ → Lines → Headed
+openedBy p c s rate (wrong n) = fault n
+openedBy p c s rate (read table t) =
+    let r = opening (record { participants = p; currencies = c; securities = s; table = table; rate = rate }) in
     record { line = suc ((numbersOf (r .answer)) .place); answer = r .answer; day = r .day; rest = t; next = s + 2 }
 
--- the first line has to be an `H`
+-- the first line has to be an `H`; it has no rate, which counts as 0 (T-03)
 abbrev pub headedBy : Line → List ℕ → Headed
 headedBy (line.Call c) t = fault 1
-headedBy (line.Heading p c s) t = openedBy p c s (securitiesFrom s 0 noTable t)
+headedBy (line.Heading p c s) t = openedBy p c s 0 (securitiesFrom s 0 noTable t)
 headedBy (line.Security a b c) t = fault 1
 headedBy (line.Member m) t = fault 1
 headedBy line.Malformed t = fault 1
@@ -101,13 +101,21 @@ pub record WrongHeading (n : ℕ) (r : code.Headed) : Type 0 where
   pub answer : r .outcome .answer ≡ Refused malformed 0
   pub day : view (r .outcome .state) ≡ opened noRules
 
--- the heading of a text
-pub record ReadsHeading (text : List ℕ) (r : code.Headed) : Type 0 where
-  pub line : r .line ≡ (heading text) .line
-  pub answer : r .outcome .answer ≡ (heading text) .answer
-  pub day : view (r .outcome .state) ≡ (heading text) .day
-  pub rest : isDone (r .outcome .answer) ≡ true → drop (r .at) text ≡ (heading text) .rest
-  pub next : isDone (r .outcome .answer) ≡ true → r .next ≡ (heading text) .next
+-- this heading h of a text
+pub record ReadsAs (h : Headed) (text : List ℕ) (r : code.Headed) : Type 0 where
+  pub line : r .line ≡ h .line
+  pub answer : r .outcome .answer ≡ h .answer
+  pub day : view (r .outcome .state) ≡ h .day
+  pub rest : isDone (r .outcome .answer) ≡ true → drop (r .at) text ≡ h .rest
+  pub next : isDone (r .outcome .answer) ≡ true → r .next ≡ h .next
   pub inside : isDone (r .outcome .answer) ≡ true → r .at ≤ length text
   pub sound : isDone (r .outcome .answer) ≡ true → sound (view (r .outcome .state)) ≡ true
   pub few : isDone (r .outcome .answer) ≡ true → r .next ≤ 18
+
+-- the heading of a text
+abbrev pub ReadsHeading : List ℕ → code.Headed → Type 0
+ReadsHeading text r = ReadsAs (heading text) text r
+
+-- the heading whose `H` says this, with its `S` lines from `from` on
+abbrev pub ReadsLines : (text : List ℕ) → (from p c s rate : ℕ) → code.Headed → Type 0
+ReadsLines text from p c s rate r = ReadsAs (openedBy p c s rate (securitiesFrom s 0 noTable (drop from text))) text r

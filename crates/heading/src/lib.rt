@@ -3,6 +3,7 @@ use lines::Line;
 use market::Answer;
 use market::MAX_SECURITIES;
 use market::Outcome;
+use market::Rules;
 use market::Security;
 use opening::refused_opening;
 use reading::command_at;
@@ -10,7 +11,7 @@ ghost use mathlib.Core.Path.{_≡_};
 ghost use Prim.Native.Nat.{_≤_};
 ghost use lib.ListN.{length};
 ghost use Rattle.market.specs.Answers.{numbersOf};
-ghost use Rattle.heading.specs.Heading.{ReadsHeading, ReadsSecurities, WrongHeading, maxText};
+ghost use Rattle.heading.specs.Heading.{ReadsHeading, ReadsLines, ReadsSecurities, WrongHeading, maxText};
 
 // A malformed line, or one out of its place.
 pub const MALFORMED: u64 = 19;
@@ -98,7 +99,40 @@ fn place_of(answer: Answer) -> u64
     }
 }
 
-// The heading of a text, with the day that it opens.
+// The heading whose `H` line says this, with its `S` lines from here on, and the day that it opens.
+pub fn opened_with(
+    text: &[u8],
+    from: usize,
+    participants: u64,
+    currencies: u64,
+    securities: u64,
+    rate: u64,
+) -> Headed
+    requires { ⌜ length (now text) ≤ maxText ⌝ }
+    ensures { λ r. ⌜ ReadsLines (now (text .entry)) from participants currencies securities rate r ⌝ }
+{
+    let lines = securities_at(text, from, securities);
+    if lines.fault != 0 {
+        return wrong_heading(lines.fault);
+    }
+    let table = lines.table;
+    let outcome = opening::opening(Rules {
+        participants,
+        currencies,
+        securities,
+        table,
+        rate,
+    });
+    let answer = outcome.answer;
+    Headed {
+        outcome,
+        line: place_of(answer) + 1,
+        next: securities + 2,
+        at: lines.next,
+    }
+}
+
+// The heading of a day file, which has no rate, with the day that it opens.
 pub fn heading_of(text: &[u8]) -> Headed
     requires { ⌜ length (now text) ≤ maxText ⌝ }
     ensures { λ r. ⌜ ReadsHeading (now (text .entry)) r ⌝ }
@@ -108,17 +142,5 @@ pub fn heading_of(text: &[u8]) -> Headed
     let Line::Heading(participants, currencies, securities) = says else {
         return wrong_heading(1);
     };
-    let lines = securities_at(text, reading.next, securities);
-    if lines.fault != 0 {
-        return wrong_heading(lines.fault);
-    }
-    let table = lines.table;
-    let outcome = opening::opening(participants, currencies, securities, table);
-    let answer = outcome.answer;
-    Headed {
-        outcome,
-        line: place_of(answer) + 1,
-        next: securities + 2,
-        at: lines.next,
-    }
+    opened_with(text, reading.next, participants, currencies, securities, 0)
 }

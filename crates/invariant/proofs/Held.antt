@@ -3,17 +3,17 @@ use Prim.Native.Nat.{ℕ, zero, suc, _+_, _≤_, _<_}
 use native.Mathlib.Omega.{arith}
 use mathlib.Core.Path.{_≡_, refl, sym, subst, _∙_}
 use mathlib.Core.List.{List}
-use mathlib.Core.Bool.{Bool, true, false}
+use mathlib.Core.Bool.{Bool, true, false, cond}
 use lib.ListN.{length}
 use lib.Dec.{eqb}
 use borrow.Author.Tests.{eqb-true, eqb-false}
-use Rattle.market.specs.Limits.{cells}
+use Rattle.market.specs.Limits.{cells, market}
 use Rattle.market.specs.declared.Rules.{Rules}
-use Rattle.market.specs.Day.{Position, blockedAt, cell, position}
+use Rattle.market.specs.Day.{Position, account, blockedAt, cell, position}
 use Rattle.market.specs.Needs.{only}
 use Rattle.market.specs.Positions.{change, receive, total, totalAt}
 use Rattle.market.proofs.Amounts.{change-law, length-change, only-zero, still}
-use Rattle.market.proofs.Totals.{total-change, total-transfer}
+use Rattle.market.proofs.Totals.{total-account, total-change, total-transfer}
 use Rattle.invariant.specs.Standing.{Held}
 
 -- one participant's amount is part of the total
@@ -30,6 +30,17 @@ total-part (suc n) c q m h = go (λ l. total-part n c q m l) (eqb q n) refl
 module _ {r : Rules} {n limit : ℕ} {m : List ℕ} {need : ℕ → ℕ} (h : Held r n limit m need) where
   pub held-cell : (p c : ℕ) → p < r .participants → c < n → cell p c < cells
   held-cell p c hp hc = omega (arith, h .wide, h .rows)
+
+  -- and before the market's row
+  pub held-member : (p c : ℕ) → p < r .participants → c < n → cell p c < cell market 0
+  held-member p c hp hc = omega (arith, h .wide, h .rows)
+
+  -- both numbers of the market's account stand in the list, and it is part of the total
+  pub held-market : (c : ℕ) → c < n → blockedAt (cell market c) < length m
+  held-market c hc = omega (arith, h .wide, h .positions)
+
+  pub held-account : (c : ℕ) → c < n → account m c ≤ limit
+  held-account c hc = omega (arith, h .topped c hc)
 
   -- both numbers of a known position stand in the list
   pub held-inside : (p c : ℕ) → p < r .participants → c < n → blockedAt (cell p c) < length m
@@ -65,7 +76,7 @@ module _ {r : Rules} {n limit : ℕ} {m : List ℕ} {need : ℕ → ℕ} (h : He
             let a = change-law (λ (x : Position). x .blocked) m (cell q e) (cell p c) f less more i moved in
             omega (arith, a, needs (cell p c), h .blocked p c hp hc);
         topped = λ c hc.
-            let a = total-change (r .participants) c m (cell q e) f 0 0 i (omega arith) in
+            let a = total-change (r .participants) c m (cell q e) f 0 0 (held-member q e hq he) i (omega arith) in
             omega (arith, a, h .topped c hc);
       }
 
@@ -85,14 +96,39 @@ module _ {r : Rules} {n limit : ℕ} {m : List ℕ} {need : ℕ → ℕ} (h : He
             still (λ (y : Position). y .blocked) m (cell q e) f i same (cell p c) ∙ h .blocked p c hp hc;
       }
 
-  -- between two known places of one column: the first pays cost in the way f, the second gets it
-  pub held-transfer : (q s e : ℕ) (f : Position → Position) (fall cost : ℕ) (need′ : ℕ → ℕ)
-      → q < r .participants → s < r .participants → e < n
+  -- of two known places of column e the first pays cost in the way f, the second gets a gain: the totals
+  pub held-total : (q s e : ℕ) (f : Position → Position) (cost gain c : ℕ) → q < r .participants → s < r .participants
+      → e < n → c < n → total (f (position m (cell q e))) + cost ≡ total (position m (cell q e))
+      → totalAt (r .participants) (change (change m (cell q e) f) (cell s e) (receive gain)) c + cond (eqb e c) cost 0
+      ≡ totalAt (r .participants) m c + cond (eqb e c) gain 0
+  held-total q s e f cost gain c hq hs he hc pays =
+      total-transfer (r .participants) c q s e cost gain m f (h .rows) hq hs (omega (arith, h .wide))
+      (omega (arith, h .wide)) (held-inside q e hq he) (held-inside s e hs he) pays
+
+  -- the market's account grows by what column e has room for
+  pub held-fees : (e a : ℕ) → e < n → ((c : ℕ) → c < n → totalAt (r .participants) m c + cond (eqb e c) a 0 ≤ limit)
+      → Held r n limit (change m (cell market e) (receive a)) need
+  held-fees e a he room =
+      let i = held-market e he in
+      record {
+        wide = h .wide;
+        rows = h .rows;
+        positions = length-change m (cell market e) (receive a) ∙ h .positions;
+        blocked = λ p c hp hc.
+            still (λ (y : Position). y .blocked) m (cell market e) (receive a) i refl (cell p c) ∙ h .blocked p c hp hc;
+        topped = λ c hc.
+            let t = total-account (r .participants) c e a m (h .rows) (omega (arith, h .wide)) (omega (arith, h .wide)) i in
+            omega (arith, t, room c hc);
+      }
+
+  -- between two known places of one column: the first pays cost in the way f, the second gets a gain, which is no more
+  pub held-transfer : (q s e : ℕ) (f : Position → Position) (fall cost gain : ℕ) (need′ : ℕ → ℕ)
+      → q < r .participants → s < r .participants → e < n → gain ≤ cost
       → total (f (position m (cell q e))) + cost ≡ total (position m (cell q e))
       → (f (position m (cell q e))) .blocked + fall ≡ (position m (cell q e)) .blocked
       → ((j : ℕ) → need′ j + only (cell q e) j fall ≡ need j)
-      → Held r n limit (change (change m (cell q e) f) (cell s e) (receive cost)) need′
-  held-transfer q s e f fall cost need′ hq hs he pays frees needs =
+      → Held r n limit (change (change m (cell q e) f) (cell s e) (receive gain)) need′
+  held-transfer q s e f fall cost gain need′ hq hs he less pays frees needs =
       let i = held-inside q e hq he in
       let m1 = change m (cell q e) f in
       let is = held-inside s e hs he in
@@ -100,14 +136,16 @@ module _ {r : Rules} {n limit : ℕ} {m : List ℕ} {need : ℕ → ℕ} (h : He
       record {
         wide = h .wide;
         rows = h .rows;
-        positions = length-change m1 (cell s e) (receive cost) ∙ length-change m (cell q e) f ∙ h .positions;
+        positions = length-change m1 (cell s e) (receive gain) ∙ length-change m (cell q e) f ∙ h .positions;
         blocked = λ p c hp hc.
             let a = change-law (λ (y : Position). y .blocked) m (cell q e) (cell p c) f fall 0 i (omega arith) in
-            let b = still (λ (y : Position). y .blocked) m1 (cell s e) (receive cost) i2 refl (cell p c) in
+            let b = still (λ (y : Position). y .blocked) m1 (cell s e) (receive gain) i2 refl (cell p c) in
             let z = only-zero (cell q e) (cell p c) in
             omega (arith, a, b, z, needs (cell p c), h .blocked p c hp hc);
         topped = λ c hc.
-            let a = total-transfer (r .participants) c q s e cost m f hq hs (omega (arith, h .wide))
-            (omega (arith, h .wide)) i is pays in
-            omega (arith, a, h .topped c hc);
+            omega (arith, held-total q s e f cost gain c hq hs he hc pays, column-less (eqb e c), h .topped c hc);
       }
+    where
+      column-less : (k : Bool) → cond k gain 0 ≤ cond k cost 0
+      column-less true = less
+      column-less false = omega arith

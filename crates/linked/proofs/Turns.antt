@@ -19,7 +19,8 @@ use Rattle.market.specs.declared.Rules.{Rules}
 use Rattle.market.specs.declared.TimeInForce.the-variants.{FillOrKill}
 use Rattle.market.specs.Limits.{lentAtLeast, maxCodes, maxLots, maxMembers, maxSecurities, maxWaiting, minMembers}
 use Rattle.market.specs.Limits.{numbersPerTrade}
-use Rattle.market.specs.Day.{Day, row}
+use Rattle.market.specs.Day.{Day}
+use Rattle.market.specs.Parts.{listing}
 use Rattle.market.specs.View.{dayOf}
 use Rattle.market.specs.Sound.{isCollecting}
 use Rattle.market.specs.TradeList.{Trade, written}
@@ -182,13 +183,13 @@ module _ {s : From} {m k l : List ℕ} {b : OrderBook} {filled made i : ℕ} (t 
         matched : isCollecting (s .phase) ≡ false
         matched = whole-matched (s .rules) (s .phase) m k b (t .stays) (s .owner) q FillOrKill refl asked
 
-        accepted : {o : Order} → o ≡ e → Accepts (s .rules) (row (s .rules) (q .security)) b o FillOrKill m k
+        accepted : {o : Order} → o ≡ e → Accepts (s .rules) (listing (s .rules) (q .security)) b o FillOrKill m k
         accepted = accepts (s .rules) (s .phase) m k b (t .stays) (s .owner) q FillOrKill asked matched
 
         -- the list is lent from here on
         module _ (at : ℕ) (here : at ≡ numbersPerTrade * made) where
           pub turn-enters : {o : Order} → o ≡ e
-              → Enterable (row (s .rules) (q .security)) b o FillOrKill m k (lentFrom l at)
+              → Enterable (listing (s .rules) (q .security)) b o FillOrKill m k (lentFrom l at)
           turn-enters eo = record {
             rules = s .rules;
             accepts = accepted eo;
@@ -200,7 +201,7 @@ module _ {s : From} {m k l : List ℕ} {b : OrderBook} {filled made i : ℕ} (t 
 
           -- and the member is entered: money m1, pieces k1, order book b1, and the lent part
           module _ {o : Order} (eo : o ≡ e) {m1 k1 part : List ℕ} {b1 : OrderBook}
-              (enters : (r : Rules) → Accepts r (row (s .rules) (q .security)) b o FillOrKill m k
+              (enters : (r : Rules) → Accepts r (listing (s .rules) (q .security)) b o FillOrKill m k
               → EntersAs (entered (openDay r m k b) o FillOrKill) r (lentFrom l at) m1 k1 part b1) where
             done : EntersAs result (s .rules) (lentFrom l at) m1 k1 part b1
             done =

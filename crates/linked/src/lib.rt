@@ -4,6 +4,7 @@ use amounts::within;
 use market::Answer;
 use market::Carried;
 use market::LENT_AT_LEAST;
+use market::Listing;
 use market::MAX_MEMBERS;
 use market::MIN_MEMBERS;
 use market::OrderBook;
@@ -61,8 +62,8 @@ fn first_no<'a>(
     book: OrderBook,
     rules: Rules,
     phase: Phase,
-    money: &'a [u64; 512],
-    pieces: &'a [u64; 512],
+    money: &'a [u64; 544],
+    pieces: &'a [u64; 544],
     participant: u64,
     member: Ticket,
 ) -> u64
@@ -102,8 +103,8 @@ fn members_in_turn(
     participant: u64,
     count: u64,
     members: [Ticket; 8],
-    money: &mut [u64; 512],
-    pieces: &mut [u64; 512],
+    money: &mut [u64; 544],
+    pieces: &mut [u64; 544],
     trades: &mut [u64],
 ) -> Carried
     requires { ⌜ Groupable rules phase (now money) (now pieces) b count (now trades) ⌝ }
@@ -124,9 +125,21 @@ fn members_in_turn(
         let mut answer = Answer::Refused(number, i + 1);
         if number == 0 {
             let row = rules.table[member.security as usize];
+            let listing = Listing {
+                row,
+                rate: rules.rate,
+            };
             let entry = entry_of(book.codes, participant, member);
             let force = TimeInForce::FillOrKill;
-            book = enter(book, entry, force, row, money, pieces, &mut trades[at..]);
+            book = enter(
+                book,
+                entry,
+                force,
+                listing,
+                money,
+                pieces,
+                &mut trades[at..],
+            );
             answer = Answer::Done(book.codes, book.filled, book.left, book.trades);
         }
         let Answer::Done(_, lots, _, made_here) = answer else {
@@ -157,8 +170,8 @@ pub fn group(
     participant: u64,
     count: u64,
     members: [Ticket; 8],
-    money: &mut [u64; 512],
-    pieces: &mut [u64; 512],
+    money: &mut [u64; 544],
+    pieces: &mut [u64; 544],
     trades: &mut [u64],
 ) -> Carried
     requires { ⌜ Ready rules phase (now money) (now pieces) b ⌝ }

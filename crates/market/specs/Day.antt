@@ -9,7 +9,7 @@ use Rattle.market.specs.declared.Rules.{Rules}
 use Rattle.market.specs.declared.Security.{Security}
 use Rattle.market.specs.declared.Side.the-variants.{Buy}
 use Rattle.market.specs.declared.Turnover.{Turnover}
-use Rattle.market.specs.Limits.{columns, moneyLimit, piecesLimit}
+use Rattle.market.specs.Limits.{columns, market, moneyLimit, piecesLimit}
 
 -- what a participant has in a currency or a security
 pub record Position : Type 0 where
@@ -71,6 +71,10 @@ blockedAt j = 2 * j + 1
 -- the position in a cell
 abbrev pub position : List ℕ → ℕ → Position
 position l j = record { free = getD l (freeAt j) 0; blocked = getD l (blockedAt j) 0 }
+
+-- "the market's own account" in a currency (T-03): what is free in its row
+abbrev pub account : List ℕ → ℕ → ℕ
+account l column = (position l (cell market column)) .free
 
 -- the row of a security
 abbrev pub row : Rules → ℕ → Security

@@ -24,4 +24,5 @@ pub mod Opening
 pub mod Contract
 pub mod Edge
 pub mod AuctionEdge
+pub mod TariffEdge
 pub mod Example

@@ -1,16 +1,19 @@
--- The opening: counts and security lines asked, an empty day handed back.
+-- The opening: its arguments asked, an empty day handed back.
 use Prim.Native.Nat.{ℕ, zero, suc}
-use mathlib.Core.List.{[]}
-use mathlib.Core.Bool.{Bool, true, false, cond}
+use mathlib.Core.List.{List, [], _∷_}
+use mathlib.Core.Bool.{cond}
 use lib.ListN.{replicate}
 use Rattle.market.specs.declared.Phase.the-variants.{Open}
 use Rattle.market.specs.Limits.{maxSecurities, positionNumbers}
+use Rattle.market.specs.Tests.{_=?_}
 use Rattle.market.specs.declared.Rules.{Rules}
 use Rattle.market.specs.Day.{Day, row, noSecurity, noTurnover}
-use Rattle.market.specs.Sound.{countsSound, rowSound}
+use Rattle.market.specs.Sound.{countsSound, rateSound, rowSound}
 use Rattle.market.specs.Answers.{Result, refused, zeros}
+use Rattle.market.specs.Questions.{Question, ask, firstNo}
 
--- "Accepted: counts and security table as given, all positions zero, phase open, no orders; codes, Q and T at zero"
+-- "Accepted: counts and security table as given, all positions zero, phase open, no orders; codes, Q and T at zero"; the
+-- rate as given, the market's account at zero with the positions (T-03)
 unfoldable pub opened : Rules → Day
 opened r = record {
   rules = r;
@@ -24,20 +27,38 @@ opened r = record {
 
 -- "refused, it hands back zeros, which is unsound"
 abbrev pub noRules : Rules
-noRules = record { participants = 0; currencies = 0; securities = 0; table = replicate maxSecurities noSecurity }
+noRules = record {
+  participants = 0;
+  currencies = 0;
+  securities = 0;
+  table = replicate maxSecurities noSecurity;
+  rate = 0;
+}
 
 -- "place of the first wrong one from 1": of n lines from s on; 0 where all are in range
 unfoldable pub firstWrong : Rules → ℕ → ℕ → ℕ
 firstWrong r zero s = 0
 firstWrong r (suc n) s = cond (rowSound (r .currencies) (row r s)) (firstWrong r n (suc s)) (suc s)
 
--- "counts in range? No: 17. Every security's line in range, its currency known? No: 18"
-abbrev pub openingBy : Rules → Bool → ℕ → Result
-openingBy r false at = refused (opened noRules) 17 0
-openingBy r true zero = zeros (opened r)
-openingBy r true (suc at) = refused (opened noRules) 18 (suc at)
+abbrev pub wrongLine : Rules → ℕ
+wrongLine r = firstWrong r (r .securities) 0
+
+-- "counts in range? No: 17. Every security's line in range, its currency known? No: 18"; "a rate above 1,000 with 22, after
+-- 18" (T-03)
+abbrev pub openingQuestions : Rules → List Question
+openingQuestions r =
+    ask 17 (countsSound (r .participants) (r .currencies) (r .securities)) ∷
+    ask 18 (wrongLine r =? 0) ∷
+    ask 22 (rateSound (r .rate)) ∷ []
+
+-- the place of a refusal: that of the first wrong line, else 0
+abbrev pub placeOf : Rules → ℕ → ℕ
+placeOf r number = cond (number =? 18) (wrongLine r) 0
+
+abbrev pub openingBy : Rules → ℕ → Result
+openingBy r zero = zeros (opened r)
+openingBy r (suc number) = refused (opened noRules) (suc number) (placeOf r (suc number))
 
 -- the definition of the opening
 unfoldable pub opening : Rules → Result
-opening r =
-    openingBy r (countsSound (r .participants) (r .currencies) (r .securities)) (firstWrong r (r .securities) 0)
+opening r = openingBy r (firstNo (openingQuestions r))

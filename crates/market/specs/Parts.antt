@@ -1,11 +1,12 @@
 -- The parts of a day as the code behind the public calls holds them: positions are lent, the order book goes by value.
-use Prim.Native.Nat.{ℕ}
+use Prim.Native.Nat.{ℕ, _≤_}
 use mathlib.Core.Path.{_≡_}
 use mathlib.Core.List.{List}
 use mathlib.Core.Bool.{true}
 use Rattle.market.specs.declared.Call as code
 use Rattle.market.specs.declared.Call.the-variants as coded
 use Rattle.market.specs.declared.Carried.{Carried}
+use Rattle.market.specs.declared.Listing.{Listing}
 use Rattle.market.specs.declared.Move.{Move}
 use Rattle.market.specs.declared.Move.the-variants as moved
 use Rattle.market.specs.declared.OrderBook.{OrderBook}
@@ -15,7 +16,8 @@ use Rattle.market.specs.declared.Session.{Session}
 use Rattle.market.specs.declared.Session.the-variants as session
 use Rattle.market.specs.declared.State.{State}
 use Rattle.market.specs.declared.Ticket.{Ticket}
-use Rattle.market.specs.Day.{Money, Pieces}
+use Rattle.market.specs.Limits.{maxLot, maxRate}
+use Rattle.market.specs.Day.{Money, Pieces, row}
 use Rattle.market.specs.View.{Sized, dayOf, view}
 use Rattle.market.specs.Sound.{sound}
 use Rattle.market.specs.Calls.{Call, cancel, closingOrder, decrease, endCollecting, endSession, increase}
@@ -62,6 +64,15 @@ callOf (coded.Group p n) ms = linked p n ms
 callOf (coded.Start z) ms = startOf z
 callOf (coded.ClosingOrder p side s lots) ms = closingOrder p side s lots
 callOf (coded.End z) ms = endOf z
+
+-- the listing of a security: its row of the table, and the rate
+abbrev pub listing : Rules → ℕ → Listing
+listing r s = record { row = row r s; rate = r .rate }
+
+-- what keeps the sums and fees of a listing small
+pub record ListingOk (l : Listing) : Type 0 where
+  pub lot : l .row .lot ≤ maxLot
+  pub rate : l .rate ≤ maxRate
 
 -- the day that these parts make up is sound, and its arrays have their lengths
 pub record Ready (r : Rules) (x : Phase) (m k : List ℕ) (b : OrderBook) : Type 0 where

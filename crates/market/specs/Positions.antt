@@ -5,11 +5,12 @@ use lib.ListN.{set}
 use Rattle.market.specs.declared.Order.{Order}
 use Rattle.market.specs.Day.{Position}
 use Rattle.market.specs.declared.Turnover.{Turnover}
+use Rattle.market.specs.Limits.{market}
 use Rattle.market.specs.Tests.{sumBelow}
 use Rattle.market.specs.declared.Rules.{Rules}
-use Rattle.market.specs.Day.{Day, blockedAt, currencyOf, freeAt, row, cell, position, positions}
+use Rattle.market.specs.Day.{Day, account, blockedAt, currencyOf, freeAt, row, cell, position, positions}
 use Rattle.market.specs.Day.{turnoverAt, withLots, withMoney, withPieces, withPositions}
-use Rattle.market.specs.Needs.{assetOf, need, piecesOf, cellFor, sumFor}
+use Rattle.market.specs.Needs.{assetOf, bothFees, need, piecesOf, cellFor, proceeds, sumFor, withFee}
 
 -- the position at cell j becomes f of it
 unfoldable pub change : List ℕ → ℕ → (Position → Position) → List ℕ
@@ -52,16 +53,20 @@ releaseFor d o = onNeed release d o
 abbrev pub freeFor : Day → Order → ℕ
 freeFor d o = (position (positions (assetOf (o .side)) d) (cellFor (d .rules) o)) .free
 
--- by how much an order's need falls when n lots come off it: for a buy "his own price × n × lot size"
+-- by how much an order's need falls when n lots come off it
 abbrev pub fall : Rules → List Turnover → Order → ℕ → ℕ
 fall r t o n = need r t o - need r t (withLots o (o .lots - n))
 
--- "the buyer's blocked money falls by his own price × n × lot size; the sum p × n × lot size goes to the seller's free
--- money; the difference returns to the buyer's free money"
+-- "the buyer's blocked money falls by his own price × n × lot size", that is by the fall in his need; "the sum p × n × lot
+-- size goes to the seller's free money; the difference returns to the buyer's free money". Of the sum each side pays the
+-- fee "into the market's own account"; "whatever a partial fill leaves over is freed" (T-03)
 abbrev pub moneySettled : Day → Order → Order → ℕ → ℕ → List ℕ
 moneySettled d b s n sum =
-    change (change (d .money) (cellFor (d .rules) b) (pay (fall (d .rules) (d .turnover) b n) sum))
-    (cell (s .participant) (currencyOf (d .rules) (b .security))) (receive sum)
+    let currency = currencyOf (d .rules) (b .security) in
+    let rate = d .rules .rate in
+    change (change (change (d .money) (cellFor (d .rules) b) (pay (fall (d .rules) (d .turnover) b n) (withFee rate sum)))
+    (cell (s .participant) currency) (receive (proceeds rate sum)))
+    (cell market currency) (receive (bothFees rate sum))
 
 -- "The seller's blocked pieces become the buyer's free pieces"
 abbrev pub piecesSettled : Day → Order → Order → ℕ → ℕ → List ℕ
@@ -87,6 +92,6 @@ counted r t s p n = set t s (counting (piecesOf (row r s) n) (sumFor (row r s) p
 abbrev pub total : Position → ℕ
 total p = p .free + p .blocked
 
--- a currency's or a security's total over all participants
+-- a currency's or a security's total over all participants; it "counts the market's account in" (T-03)
 abbrev pub totalAt : ℕ → List ℕ → ℕ → ℕ
-totalAt participants l column = sumBelow participants (λ p. total (position l (cell p column)))
+totalAt participants l column = account l column + sumBelow participants (λ p. total (position l (cell p column)))

@@ -26,6 +26,7 @@ view s = record {
     currencies = s .currencies;
     securities = s .securities;
     table = s .table;
+    rate = s .rate;
   };
   money = s .money;
   pieces = s .pieces;

@@ -37,8 +37,16 @@ pub const MIN_MEMBERS: u64 = 2;
 
 pub const MAX_MEMBERS: u64 = 8;
 
+pub const MAX_RATE: u64 = 1000;
+
+// A rate is in hundred-thousandths of a sum.
+pub const RATE_UNIT: u64 = 100000;
+
+// The row of the market's own account, behind those of 16 participants.
+pub const MARKET: u64 = 16;
+
 // The limits in the order of specs/Limits, each equal to the definition's.
-pub fn limits() -> [u64; 15]
+pub fn limits() -> [u64; 18]
     ensures { λ r. ⌜ r ≡ limitsInOrder ⌝ }
 {
     [
@@ -57,6 +65,9 @@ pub fn limits() -> [u64; 15]
         LENT_AT_LEAST as u64,
         MIN_MEMBERS,
         MAX_MEMBERS,
+        MAX_RATE,
+        RATE_UNIT,
+        MARKET,
     ]
 }
 
@@ -116,12 +127,19 @@ pub struct Ticket {
     pub lots: u64,
 }
 
-// What the opening fixes: counts and security table.
+// The opening's arguments, which nothing changes: counts, security table, and the rate of the tariff in hundred-thousandths.
 pub struct Rules {
     pub participants: u64,
     pub currencies: u64,
     pub securities: u64,
     pub table: [Security; 16],
+    pub rate: u64,
+}
+
+// A security as it is traded here: its row of the table, and the rate. Needs and fees are reckoned from it.
+pub struct Listing {
+    pub row: Security,
+    pub rate: u64,
 }
 
 // A move of reserves: participant, currency or security, amount.
@@ -153,20 +171,21 @@ pub enum Call {
     End(Session),
 }
 
-// A position's cell is participant * 16 + currency or security, free at twice that cell and blocked behind it; the first
-// `count` orders wait.
+// A position's cell is participant * 16 + currency or security, free at twice that cell and blocked behind it; the row
+// behind the participants' 16 is the market's own account. The first `count` orders wait.
 pub struct State {
     pub participants: u64,
     pub currencies: u64,
     pub securities: u64,
     pub table: [Security; 16],
-    pub money: [u64; 512],
-    pub pieces: [u64; 512],
+    pub money: [u64; 544],
+    pub pieces: [u64; 544],
     pub orders: [Order; 128],
     pub count: usize,
     pub codes: u64,
     pub phase: Phase,
     pub turnover: [Turnover; 16],
+    pub rate: u64,
 }
 
 // Refused(number, place) or Done(code, filled, left, trades).
@@ -254,6 +273,7 @@ pub fn rules_of(s: State) -> Rules
         currencies: s.currencies,
         securities: s.securities,
         table,
+        rate: s.rate,
     }
 }
 
@@ -277,8 +297,8 @@ pub fn book_of(s: State) -> OrderBook
 pub fn state_of(
     s: State,
     phase: Phase,
-    money: [u64; 512],
-    pieces: [u64; 512],
+    money: [u64; 544],
+    pieces: [u64; 544],
     book: OrderBook,
 ) -> State
     ensures { λ r. ⌜ view r ≡ dayOf (rulesOf s) phase money pieces book ⌝ }
@@ -298,6 +318,7 @@ pub fn state_of(
         codes: book.codes,
         phase,
         turnover,
+        rate: s.rate,
     }
 }
 

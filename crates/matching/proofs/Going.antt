@@ -8,7 +8,7 @@ use lib.ListN.{length, set, take-append-drop}
 use borrow.Author.Tests.{leb-true, leb-false}
 use Rattle.market.specs.declared.Order.{Order}
 use Rattle.market.specs.declared.OrderBook.{OrderBook}
-use Rattle.market.specs.declared.Security.{Security}
+use Rattle.market.specs.declared.Listing.{Listing}
 use Rattle.market.specs.declared.Turnover.{Turnover}
 use Rattle.market.specs.Limits.{maxSecurities, maxWaiting, numbersPerTrade}
 use Rattle.market.specs.Tests.{_≤?_}
@@ -31,10 +31,10 @@ use Rattle.matching.specs.Written.{tradeWritten}
 use Rattle.matching.proofs.Ready.{day-traded, executable, trade-is}
 use Rattle.matching.proofs.Writing.{written-length, written-next, writtenFrom}
 
--- the parts at the start: rules, row, entry, money, pieces, order book, lent list
+-- the parts at the start: rules, listing, entry, money, pieces, order book, lent list
 pub record Start : Type 0 where
   pub r : Rules
-  pub l : Security
+  pub l : Listing
   pub e : Order
   pub m : List ℕ
   pub k : List ℕ
@@ -194,7 +194,7 @@ module _ {s : Start} {m k v : List ℕ} {b : OrderBook} {left made : ℕ} (g : G
             rw part
             (record {
               flies = record {
-                row = g .flies .row;
+                listing = g .flies .listing;
                 flight = subst (λ (d : Day). InFlight d rest) (sym after)
                     (flight-next day entry (g .flies .flight) i p n some chosen (omega arith) (omega arith));
               };

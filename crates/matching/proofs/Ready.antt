@@ -1,6 +1,5 @@
 -- Why no step of a trade goes below zero or past 64 bits, and what the parts of the day are after it.
 use Prim.Native.Nat.{ℕ, _+_, _*_, _≤_, _<_}
-use native.Mathlib.Nat.{mul-le-mul-left, mul-le-mul-right}
 use native.Mathlib.Omega.{arith}
 use mathlib.Core.Path.{_≡_, refl, ap, sym, _∙_, subst}
 use mathlib.Core.List.{List, [], _∷_, _++_}
@@ -10,17 +9,18 @@ use borrow.Author.Tests.{leb-true}
 use Rattle.market.specs.declared.Order.{Order}
 use Rattle.market.specs.declared.OrderBook.{OrderBook}
 use Rattle.market.specs.declared.Phase.{Phase}
-use Rattle.market.specs.declared.Security.{Security}
+use Rattle.market.specs.declared.Listing.{Listing}
 use Rattle.market.specs.declared.Side.{Side}
 use Rattle.market.specs.declared.Side.the-variants.{Buy, Sell}
 use Rattle.market.specs.declared.Turnover.{Turnover}
-use Rattle.market.specs.Limits.{maxCodes, maxLot, maxLots, maxPieces, moneyLimit, numbersPerTrade}
+use Rattle.market.specs.Limits.{market, maxCodes, maxLots, maxPrice, moneyLimit, numbersPerTrade}
 use Rattle.market.specs.declared.Rules.{Rules}
 use Rattle.market.specs.Day.{Asset, Day, Money, Pieces, currencyOf, row, noOrder, orderAt, cell, turnoverAt}
 use Rattle.market.specs.Day.{withMoney, withPieces}
 use Rattle.market.specs.View.{dayOf}
-use Rattle.market.specs.Needs.{assetOf, columnOf, limitOf, need, needAt, piecesOf, cellFor, sumFor}
+use Rattle.market.specs.Needs.{assetOf, bothFees, columnOf, limitOf, need, needAt, piecesOf, cellFor, proceeds, sumFor, withFee}
 use Rattle.market.specs.Positions.{change, counted, counting, fall, moneySettled, pay, piecesSettled, receive, settle}
+use Rattle.market.specs.Parts.{listing}
 use Rattle.market.specs.Waiting.{takeOff}
 use Rattle.market.specs.TradeList.{tradeOf}
 use Rattle.market.specs.Matching.{buyOf, found, ifBuy, opposite, reaches, sellOf, traded}
@@ -28,12 +28,12 @@ use Rattle.market.proofs.Logic.{never}
 use Rattle.market.proofs.View.{first-length}
 use Rattle.market.proofs.Lists.{all-map, sum-remove}
 use Rattle.market.proofs.Amounts.{only-same}
-use Rattle.market.proofs.Needs.{fall-pays, fall-sells, need-own, pieces-split, sum-bounds}
-use Rattle.market.proofs.Known.{OrderOk}
+use Rattle.market.proofs.Needs.{fall-pays, fall-sells, fee-shared, need-own, pieces-small, pieces-split, sum-small}
+use Rattle.market.proofs.Known.{OrderOk, listing-ok}
 use Rattle.market.proofs.Matching.{Chosen}
 use Rattle.positions.specs.Payable.{Payable}
 use Rattle.invariant.specs.Standing.{Backed, Held, Standing, needsOf}
-use Rattle.invariant.proofs.Held.{held-cell, held-within}
+use Rattle.invariant.proofs.Held.{held-account, held-cell, held-within}
 use Rattle.invariant.proofs.Flight.{buyer-pays, fitting, okE, okO, range}
 use Rattle.matching.specs.Execution.{Countable, Executable, Executes, Settles, moneyAfter}
 use Rattle.matching.specs.Execution.{piecesAfter}
@@ -51,15 +51,16 @@ few-waiting r x m k b st = record {
 
 -- what is needed is blocked, so it can be paid, in money as in pieces
 payable : {r : Rules} {n limit : ℕ} {m : List ℕ} {needs : ℕ → ℕ}
-    → Held r n limit m needs → limit ≤ moneyLimit → (q s c fall cost : ℕ)
-    → q < r .participants → s < r .participants → c < n → fall ≤ needs (cell q c) → cost ≤ fall
-    → Payable m (cell q c) fall cost (cell s c)
-payable h top q s c fall cost hq hs hc needed pays = record {
+    → Held r n limit m needs → limit ≤ moneyLimit → (q s c fall cost gain : ℕ)
+    → q < r .participants → s < r .participants → c < n → fall ≤ needs (cell q c) → cost ≤ fall → gain ≤ cost
+    → Payable m (cell q c) fall cost (cell s c) gain
+payable h top q s c fall cost gain hq hs hc needed pays gains = record {
   size = h .positions;
   payerKnown = held-cell h q c hq hc;
   receiverKnown = held-cell h s c hs hc;
   covered = omega (arith, h .blocked q c hq hc);
   pays = pays;
+  gains = gains;
   payerTotal = omega (arith, held-within h q c hq hc);
   receiverTotal = omega (arith, held-within h s c hs hc);
 }
@@ -79,25 +80,26 @@ module _ (x : List Order) (d : Day) (backed : Backed x d) (buy sell : Order) (p 
     (bought : n ≤ buy .lots) (sold : n ≤ sell .lots)
     (buyer : (j : ℕ) → needAt Money (d .rules) (d .turnover) j buy ≤ needsOf Money d (x ++ d .waiting) j)
     (seller : (j : ℕ) → needAt Pieces (d .rules) (d .turnover) j sell ≤ needsOf Pieces d (x ++ d .waiting) j) where
-  abbrev own : Security
-  own = row (d .rules) (buy .security)
+  abbrev own : Listing
+  own = listing (d .rules) (buy .security)
 
   abbrev falls : ℕ
   falls = fall (d .rules) (d .turnover) buy n
 
-  sells-all : piecesOf own n ≡ fall (d .rules) (d .turnover) sell n
+  sells-all : piecesOf (own .row) n ≡ fall (d .rules) (d .turnover) sell n
   sells-all =
       sym (fall-sells (d .rules) (d .turnover) sell n sells sold
       ∙ ap (λ (k : ℕ). piecesOf (row (d .rules) k) n) same)
 
-  pub settles : Settles own buy sell falls (sumFor own p n) (piecesOf own n) (d .money) (d .pieces)
-  settles =
+  pub settles : p ≤ maxPrice → Settles own buy sell falls (sumFor (own .row) p n) (piecesOf (own .row) n) (d .money) (d .pieces)
+  settles top =
       let rules = backed .rulesOk in
       let s = buy .security in
       let c = currencyOf (d .rules) s in
       let hc = rules .currency s (buyOk .security) in
-      let cost = sumFor own p n in
-      let pieces = piecesOf own n in
+      let sum = sumFor (own .row) p n in
+      let pieces = piecesOf (own .row) n in
+      let shared = fee-shared (own .rate) sum (rules .rate) in
       let paid : falls ≤ needsOf Money d (x ++ d .waiting) (cell (buy .participant) c) =
       omega (arith, need-there (d .rules) (d .turnover) buy Buy buys, buyer (cell (buy .participant) c)) in
       let given : pieces ≤ needsOf Pieces d (x ++ d .waiting) (cell (sell .participant) s) =
@@ -113,28 +115,33 @@ module _ (x : List Order) (d : Day) (backed : Backed x d) (buy sell : Order) (p 
         seller = omega (arith, sellOk .participant, rules .participants);
         security = omega (arith, buyOk .security, rules .securities);
         currency = omega (arith, hc, rules .currencies);
+        rate = rules .rate;
+        small = sum-small (own .row) p n (rules .lot s (buyOk .security)) top (omega (arith, buyOk .top));
+        account = held-account (backed .held Money) c hc;
         money =
-            payable (backed .held Money) (omega arith) (buy .participant) (sell .participant) c falls cost
-            (buyOk .participant) (sellOk .participant) hc paid
-            (fall-pays (d .rules) (d .turnover) buy p n buys price bought);
+            payable (backed .held Money) (omega arith) (buy .participant) (sell .participant) c falls
+            (withFee (own .rate) sum) (proceeds (own .rate) sum) (buyOk .participant) (sellOk .participant) hc paid
+            (fall-pays (d .rules) (d .turnover) buy p n buys price bought) (omega (arith, shared));
         pieces =
             payable (backed .held Pieces) (omega arith) (sell .participant) (buy .participant) s pieces pieces
-            (sellOk .participant) (buyOk .participant) (buyOk .security) given (omega arith);
+            pieces (sellOk .participant) (buyOk .participant) (buyOk .security) given (omega arith) (omega arith);
       }
 
   -- money and pieces after the trade
-  pub settled : (m k : List ℕ) → m ≡ moneyAfter own buy sell falls (sumFor own p n) (d .money)
-      → k ≡ piecesAfter buy sell (piecesOf own n) (d .pieces) → withPieces (withMoney d m) k ≡ settle d buy sell p n
+  pub settled : (m k : List ℕ) → m ≡ moneyAfter own buy sell falls (sumFor (own .row) p n) (d .money)
+      → k ≡ piecesAfter buy sell (piecesOf (own .row) n) (d .pieces) → withPieces (withMoney d m) k ≡ settle d buy sell p n
   unfolding settle
   settled m k em ek =
       let c = currencyOf (d .rules) (buy .security) in
-      let sum = sumFor own p n in
-      let pieces = piecesOf own n in
+      let rate = own .rate in
+      let sum = sumFor (own .row) p n in
+      let pieces = piecesOf (own .row) n in
       let payer : cell (buy .participant) c ≡ cellFor (d .rules) buy = rw buys in
       let holder : cell (sell .participant) (buy .security) ≡ cellFor (d .rules) sell = rw (sells, same) in
       let paid : m ≡ moneySettled d buy sell n sum =
       em
-      ∙ ap (λ (i : ℕ). change (change (d .money) i (pay falls sum)) (cell (sell .participant) c) (receive sum)) payer in
+      ∙ ap (λ (i : ℕ). change (change (change (d .money) i (pay falls (withFee rate sum))) (cell (sell .participant) c)
+      (receive (proceeds rate sum))) (cell market c) (receive (bothFees rate sum))) payer in
       let delivered : k ≡ piecesSettled d buy sell n pieces =
       ek
       ∙ ap (λ (i : ℕ). change (change (d .pieces) i (pay pieces pieces)) (cell (buy .participant) (buy .security))
@@ -144,7 +151,7 @@ module _ (x : List Order) (d : Day) (backed : Backed x d) (buy sell : Order) (p 
       rw (paid, delivered)
 
 -- the entry e trades n lots with the order at place i, at its price p
-module _ {r : Rules} {l : Security} {b : OrderBook} {e : Order} {m k : List ℕ} (f : Flies r l b e m k) (i p n : ℕ)
+module _ {r : Rules} {l : Listing} {b : OrderBook} {e : Order} {m k : List ℕ} (f : Flies r l b e m k) (i p n : ℕ)
     (some : 0 < e .lots) (chosen : Chosen e (waitingIn b) (found i p)) (ne : n ≤ e .lots)
     (no : n ≤ (orderAt (waitingIn b) i) .lots) where
   abbrev d : Day
@@ -164,10 +171,10 @@ module _ {r : Rules} {l : Security} {b : OrderBook} {e : Order} {m k : List ℕ}
 
   abbrev Fits : Order → Order → Type 0
   Fits buy sell =
-      Settles (row r (buy .security)) buy sell (fall r t buy n) (sumFor (row r (buy .security)) p n)
+      Settles (listing r (buy .security)) buy sell (fall r t buy n) (sumFor (row r (buy .security)) p n)
       (piecesOf (row r (buy .security)) n) m k
       × ((m′ k′ : List ℕ)
-      → m′ ≡ moneyAfter (row r (buy .security)) buy sell (fall r t buy n) (sumFor (row r (buy .security)) p n) m
+      → m′ ≡ moneyAfter (listing r (buy .security)) buy sell (fall r t buy n) (sumFor (row r (buy .security)) p n) m
       → k′ ≡ piecesAfter buy sell (piecesOf (row r (buy .security)) n) k
       → withPieces (withMoney d m′) k′ ≡ settle d buy sell p n)
 
@@ -178,20 +185,22 @@ module _ {r : Rules} {l : Security} {b : OrderBook} {e : Order} {m k : List ℕ}
   sides Buy Sell ex oy q h =
       let same = sym ((fitting d e (f .flight) i p n some chosen ne no) .security) in
       let price = (buyer-pays d e (f .flight) i p n some chosen ne no Buy h) .0 in
+      let top = (range d e (f .flight) i p n some chosen ne no) .1 in
       let eOk = okE d e (f .flight) i p n some chosen ne no in
       let oOk = okO d e (f .flight) i p n some chosen ne no in (
         settles (e ∷ []) d (f .flight .backed) e o p n eOk oOk ex oy same price ne no (entry-listed Money)
-            (waiting-listed Pieces),
+            (waiting-listed Pieces) top,
         settled (e ∷ []) d (f .flight .backed) e o p n eOk oOk ex oy same price ne no (entry-listed Money)
             (waiting-listed Pieces),
       )
   sides Sell Buy ex oy q h =
       let same = (fitting d e (f .flight) i p n some chosen ne no) .security in
       let price = (buyer-pays d e (f .flight) i p n some chosen ne no Sell h) .0 in
+      let top = (range d e (f .flight) i p n some chosen ne no) .1 in
       let eOk = okE d e (f .flight) i p n some chosen ne no in
       let oOk = okO d e (f .flight) i p n some chosen ne no in (
         settles (e ∷ []) d (f .flight .backed) o e p n oOk eOk oy ex same price no ne (waiting-listed Money)
-            (entry-listed Pieces),
+            (entry-listed Pieces) top,
         settled (e ∷ []) d (f .flight .backed) o e p n oOk eOk oy ex same price no ne (waiting-listed Money)
             (entry-listed Pieces),
       )
@@ -220,25 +229,19 @@ module _ {r : Rules} {l : Security} {b : OrderBook} {e : Order} {m k : List ℕ}
       let room = only-same s (piecesOf x (e .lots)) in
       let split = pieces-split x (e .lots) n ne in
       let price = range d e g i p n some chosen ne no in
-      let sum = sum-bounds x p n (price .0) (price .1) in
       let codes = leb-true (b .codes) maxCodes (g .limit) in
       let lot = g .backed .rulesOk .lot s (g .security) in
-      let few = pieces-few x n lot (omega (arith, g .top)) in
+      let lots : n ≤ maxLots = omega (arith, g .top) in
       record {
         roomQ = omega (arith, q .top);
         roomT = omega (arith, q .top, q .high);
-        few = few;
-        low = omega (arith, sum .1);
+        few = pieces-small x n lot lots;
+        low = sum-small x p n lot (price .1) lots;
       }
-    where
-      pieces-few : (x : Security) (n : ℕ) → x .lot ≤ maxLot → n ≤ maxLots → piecesOf x n ≤ maxPieces
-      pieces-few x n lot h =
-          unfold piecesOf in
-          (let a = mul-le-mul-right (x .lot) h in let b = mul-le-mul-left maxLots lot in omega arith)
 
   -- in terms of the entry's security
   abbrev At : ℕ → (List ℕ) → ℕ → Type 0
-  At s v j = Executable (row r s) (turnoverAt t s) (buyOf e o) (sellOf e o) p n j m k v
+  At s v j = Executable (listing r s) (turnoverAt t s) (buyOf e o) (sellOf e o) p n j m k v
 
   pub executable : (v : List ℕ) (j : ℕ) → numbersPerTrade * j + numbersPerTrade ≤ length v
       → Executable l (turnoverAt t (e .security)) (buyOf e o) (sellOf e o) p n j m k v
@@ -249,12 +252,12 @@ module _ {r : Rules} {l : Security} {b : OrderBook} {e : Order} {m k : List ℕ}
       let h = fitting d e g i p n some chosen ne no in
       let limit = (buyer-pays d e g i p n some chosen ne no (e .side) (h .price)) .1 in
       let lots = top-of (e .side) in
-      subst (λ (x : Security). Executable x (turnoverAt t (e .security)) (buyOf e o) (sellOf e o) p n j m k v) (f .row)
+      subst (λ (x : Listing). Executable x (turnoverAt t (e .security)) (buyOf e o) (sellOf e o) p n j m k v) (f .listing)
       (subst (λ (x : ℕ). At x v j) s
       (record {
         settles = both .0;
         reckoned = record {
-          lot = g .backed .rulesOk .lot ((buyOf e o) .security) (omega (arith, s, g .security));
+          listing = listing-ok r ((buyOf e o) .security) (g .backed .rulesOk) (omega (arith, s, g .security));
           limit = limit;
           top = lots .0;
           part = lots .1;
@@ -265,23 +268,23 @@ module _ {r : Rules} {l : Security} {b : OrderBook} {e : Order} {m k : List ℕ}
       }))
 
   -- the list shows the definition's trade
-  pub trade-is : tradeAs (buyOf e o) (sellOf e o) p n (sumFor l p n) ≡ tradeOf r (buyOf e o) (sellOf e o) p n
+  pub trade-is : tradeAs (buyOf e o) (sellOf e o) p n (sumFor (l .row) p n) ≡ tradeOf r (buyOf e o) (sellOf e o) p n
   trade-is =
-      let own : row r ((buyOf e o) .security) ≡ l = ap (row r) (security-is (e .side)) ∙ f .row in
-      ap (λ (x : Security). tradeAs (buyOf e o) (sellOf e o) p n (sumFor x p n)) (sym own)
+      let own : listing r ((buyOf e o) .security) ≡ l = ap (listing r) (security-is (e .side)) ∙ f .listing in
+      ap (λ (x : Listing). tradeAs (buyOf e o) (sellOf e o) p n (sumFor (x .row) p n)) (sym own)
 
   -- the parts after the trade make up the definition's day
   module _ {m′ k′ v v′ : List ℕ} {j : ℕ} {q : Turnover} (b′ : OrderBook)
       (done : Executes l (turnoverAt t (e .security)) (buyOf e o) (sellOf e o) p n j m k v m′ k′ v′ q)
       (waiting : waitingIn b′ ≡ takeOff (waitingIn b) i n) (codes : b′ .codes ≡ b .codes)
       (turnover : b′ .turnover ≡ set t (e .security) q) where
-    at-buy : Executes (row r ((buyOf e o) .security)) (turnoverAt t ((buyOf e o) .security)) (buyOf e o) (sellOf e o) p n j
+    at-buy : Executes (listing r ((buyOf e o) .security)) (turnoverAt t ((buyOf e o) .security)) (buyOf e o) (sellOf e o) p n j
         m k v m′ k′ v′ q
     at-buy =
-        subst (λ (x : ℕ). Executes (row r x) (turnoverAt t x) (buyOf e o) (sellOf e o) p n j m k v m′ k′ v′ q)
+        subst (λ (x : ℕ). Executes (listing r x) (turnoverAt t x) (buyOf e o) (sellOf e o) p n j m k v m′ k′ v′ q)
         (sym (security-is (e .side)))
-        (subst (λ (x : Security). Executes x (turnoverAt t (e .security)) (buyOf e o) (sellOf e o) p n j m k v m′ k′ v′ q)
-        (sym (f .row)) done)
+        (subst (λ (x : Listing). Executes x (turnoverAt t (e .security)) (buyOf e o) (sellOf e o) p n j m k v m′ k′ v′ q)
+        (sym (f .listing)) done)
 
     pub day-traded : openDay r m′ k′ b′ ≡ traded d (buyOf e o) (sellOf e o) i p n
     unfolding traded settle counted

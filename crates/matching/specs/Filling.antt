@@ -6,12 +6,13 @@ use lib.ListN.{length}
 use Rattle.market.specs.declared.Order.{Order}
 use Rattle.market.specs.declared.OrderBook.{OrderBook}
 use Rattle.market.specs.declared.Phase.the-variants.{Open}
-use Rattle.market.specs.declared.Security.{Security}
+use Rattle.market.specs.declared.Listing.{Listing}
 use Rattle.market.specs.Limits.{numbersPerTrade}
 use Rattle.market.specs.declared.Rules.{Rules}
-use Rattle.market.specs.Day.{Day, row, withLots}
+use Rattle.market.specs.Day.{Day, withLots}
 use Rattle.market.specs.View.{dayOf}
 use Rattle.market.specs.TradeList.{written}
+use Rattle.market.specs.Parts.{listing}
 use Rattle.market.specs.Matching.{Filled, fill}
 use Rattle.invariant.specs.Standing.{InFlight}
 use Rattle.matching.specs.Orders.{coded}
@@ -20,13 +21,13 @@ use Rattle.matching.specs.Orders.{coded}
 abbrev pub openDay : Rules → List ℕ → List ℕ → OrderBook → Day
 openDay r money pieces b = dayOf r Open money pieces b
 
--- under rules r, l is the row of the entry's security, and the entry e is being matched on money m and pieces k
-pub record Flies (r : Rules) (l : Security) (b : OrderBook) (e : Order) (m k : List ℕ) : Type 0 where
-  pub row : row r (e .security) ≡ l
+-- under rules r, l is the listing of the entry's security, and the entry e is being matched on money m and pieces k
+pub record Flies (r : Rules) (l : Listing) (b : OrderBook) (e : Order) (m k : List ℕ) : Type 0 where
+  pub listing : listing r (e .security) ≡ l
   pub flight : InFlight (openDay r m k b) e
 
 -- there are such rules, and room for a trade with each waiting order
-pub record Fillable (l : Security) (b : OrderBook) (e : Order) (m k v : List ℕ) : Type 0 where
+pub record Fillable (l : Listing) (b : OrderBook) (e : Order) (m k v : List ℕ) : Type 0 where
   pub rules : Rules
   pub flies : Flies rules l (coded b e) e m k
   pub lent : numbersPerTrade * b .count ≤ length v
@@ -40,7 +41,7 @@ pub record FilledAs (f : Filled) (r : Rules) (e : Order) (v m′ k′ v′ : Lis
   pub list : v′ ≡ written (f .trades) v
 
 -- under all such rules
-abbrev pub Fills : Security → OrderBook → Order → (m k v m′ k′ v′ : List ℕ) → OrderBook → Type 0
+abbrev pub Fills : Listing → OrderBook → Order → (m k v m′ k′ v′ : List ℕ) → OrderBook → Type 0
 Fills l b e m k v m′ k′ v′ b′ =
     (r : Rules) → Flies r l (coded b e) e m k
     → FilledAs (fill (openDay r m k (coded b e)) e) r e v m′ k′ v′ b′

@@ -1,14 +1,17 @@
 // Continuous trading: the best counter order, one trade, the fill. Positions and the trade list are lent, the order book
 // goes by value.
+use amounts::account_cell;
 use amounts::cell_of;
+use amounts::fee_of;
 use amounts::need_of;
 use amounts::pieces_of;
 use market::Kind;
+use market::Listing;
 use market::Order;
 use market::OrderBook;
-use market::Security;
 use market::Side;
 use market::Turnover;
+use positions::receive;
 use positions::transfer;
 ghost use mathlib.Core.Path.{_≡_};
 ghost use Prim.Native.Nat.{_+_, _*_, _-_, _≤_, _<_, min};
@@ -204,12 +207,12 @@ pub fn fitting_lots(book: OrderBook, e: Order) -> u64
 }
 
 // By how much an order's need falls when lots come off it.
-fn fall_of(row: Security, turnover: Turnover, order: Order, lots: u64) -> u64
-    requires { ⌜ Reckoned row turnover order lots ⌝ }
-    ensures { λ r. ⌜ r ≡ fallWith row turnover order lots ⌝ }
+fn fall_of(listing: Listing, turnover: Turnover, order: Order, lots: u64) -> u64
+    requires { ⌜ Reckoned listing turnover order lots ⌝ }
+    ensures { λ r. ⌜ r ≡ fallWith listing turnover order lots ⌝ }
 {
     let rest = with_lots(order, order.lots - lots);
-    need_of(row, turnover, order) - need_of(row, turnover, rest)
+    need_of(listing, turnover, order) - need_of(listing, turnover, rest)
 }
 
 // The numbers of a trade, as trade number `at` of the lent list.
@@ -236,51 +239,54 @@ fn write_trade(
     trades[first + 7] = sum;
 }
 
-// Money and pieces change hands. Where the price is below the buyer's own, the difference returns to his free money; the
-// seller's need falls by the pieces that he sells.
+// Money and pieces change hands, and each side pays the fee to the market. What the buyer's need falls by above the sum and
+// his fee returns to his free money; the seller's need falls by the pieces that he sells.
 fn settle(
-    money: &mut [u64; 512],
-    pieces: &mut [u64; 512],
-    row: Security,
+    money: &mut [u64; 544],
+    pieces: &mut [u64; 544],
+    listing: Listing,
     buy: Order,
     sell: Order,
     fall: u64,
     sum: u64,
     sold: u64,
 )
-    requires { ⌜ Settles row buy sell fall sum sold (now money) (now pieces) ⌝ }
-    ensures { λ _. ⌜ now (money .exit) ≡ moneyAfter row buy sell fall sum (now (money .entry)) ⌝ }
+    requires { ⌜ Settles listing buy sell fall sum sold (now money) (now pieces) ⌝ }
+    ensures { λ _. ⌜ now (money .exit) ≡ moneyAfter listing buy sell fall sum (now (money .entry)) ⌝ }
     ensures { λ _. ⌜ now (pieces .exit) ≡ piecesAfter buy sell sold (now (pieces .entry)) ⌝ }
 {
-    let payer = cell_of(buy.participant, row.currency);
-    let payee = cell_of(sell.participant, row.currency);
-    transfer(money, payer, payee, fall, sum);
+    let fee = fee_of(listing.rate, sum);
+    let currency = listing.row.currency;
+    let payer = cell_of(buy.participant, currency);
+    let payee = cell_of(sell.participant, currency);
+    transfer(money, payer, payee, fall, sum + fee, sum - fee);
+    receive(money, account_cell(currency), fee + fee);
     let holder = cell_of(sell.participant, buy.security);
     let taker = cell_of(buy.participant, buy.security);
-    transfer(pieces, holder, taker, sold, sold);
+    transfer(pieces, holder, taker, sold, sold, sold);
 }
 
 // A trade, whichever session makes it: positions are settled and the list shows it; the answer is Q and T with it.
 pub fn execute(
-    money: &mut [u64; 512],
-    pieces: &mut [u64; 512],
+    money: &mut [u64; 544],
+    pieces: &mut [u64; 544],
     trades: &mut [u64],
     number: usize,
-    row: Security,
+    listing: Listing,
     turnover: Turnover,
     buy: Order,
     sell: Order,
     price: u64,
     lots: u64,
 ) -> Turnover
-    requires { ⌜ Executable row turnover buy sell price lots number (now money) (now pieces) (now trades) ⌝ }
-    ensures { λ r. ⌜ Executes row turnover buy sell price lots number (now (money .entry)) (now (pieces .entry)) (now (trades .entry)) (now (money .exit)) (now (pieces .exit)) (now (trades .exit)) r ⌝ }
+    requires { ⌜ Executable listing turnover buy sell price lots number (now money) (now pieces) (now trades) ⌝ }
+    ensures { λ r. ⌜ Executes listing turnover buy sell price lots number (now (money .entry)) (now (pieces .entry)) (now (trades .entry)) (now (money .exit)) (now (pieces .exit)) (now (trades .exit)) r ⌝ }
 {
-    let fall = fall_of(row, turnover, buy, lots);
-    let sold = pieces_of(row, lots);
+    let fall = fall_of(listing, turnover, buy, lots);
+    let sold = pieces_of(listing.row, lots);
     let sum = price * sold;
     write_trade(trades, number, buy, sell, price, lots, sum);
-    settle(money, pieces, row, buy, sell, fall, sum, sold);
+    settle(money, pieces, listing, buy, sell, fall, sum, sold);
     counted(turnover, sold, sum)
 }
 
@@ -303,18 +309,18 @@ fn if_buy(side: Side, first: Order, second: Order) -> Order
 
 // The entry trades with a waiting order, at the waiting order's price.
 fn trade_with(
-    money: &mut [u64; 512],
-    pieces: &mut [u64; 512],
+    money: &mut [u64; 544],
+    pieces: &mut [u64; 544],
     trades: &mut [u64],
     number: usize,
-    row: Security,
+    listing: Listing,
     turnover: Turnover,
     e: Order,
     o: Order,
     lots: u64,
 ) -> Turnover
-    requires { ⌜ Executable row turnover (buyOf e o) (sellOf e o) (priceOf o) lots number (now money) (now pieces) (now trades) ⌝ }
-    ensures { λ r. ⌜ Executes row turnover (buyOf e o) (sellOf e o) (priceOf o) lots number (now (money .entry)) (now (pieces .entry)) (now (trades .entry)) (now (money .exit)) (now (pieces .exit)) (now (trades .exit)) r ⌝ }
+    requires { ⌜ Executable listing turnover (buyOf e o) (sellOf e o) (priceOf o) lots number (now money) (now pieces) (now trades) ⌝ }
+    ensures { λ r. ⌜ Executes listing turnover (buyOf e o) (sellOf e o) (priceOf o) lots number (now (money .entry)) (now (pieces .entry)) (now (trades .entry)) (now (money .exit)) (now (pieces .exit)) (now (trades .exit)) r ⌝ }
 {
     let kind = o.kind;
     let price = price_of(kind);
@@ -326,7 +332,7 @@ fn trade_with(
         pieces,
         trades,
         number,
-        row,
+        listing,
         turnover,
         buy,
         sell,
@@ -335,18 +341,18 @@ fn trade_with(
     )
 }
 
-// The fill of an entry whose need is blocked; `row` is its security's. Its code is given here, so that the book is
+// The fill of an entry whose need is blocked; `listing` is that of its security. Its code is given here, so that the book is
 // handed on as it came.
 pub fn fill(
     b: OrderBook,
     e: Order,
-    row: Security,
-    money: &mut [u64; 512],
-    pieces: &mut [u64; 512],
+    listing: Listing,
+    money: &mut [u64; 544],
+    pieces: &mut [u64; 544],
     trades: &mut [u64],
 ) -> OrderBook
-    requires { ⌜ Fillable row b e (now money) (now pieces) (now trades) ⌝ }
-    ensures { λ r. ⌜ Fills row b e (now (money .entry)) (now (pieces .entry)) (now (trades .entry)) (now (money .exit)) (now (pieces .exit)) (now (trades .exit)) r ⌝ }
+    requires { ⌜ Fillable listing b e (now money) (now pieces) (now trades) ⌝ }
+    ensures { λ r. ⌜ Fills listing b e (now (money .entry)) (now (pieces .entry)) (now (trades .entry)) (now (money .exit)) (now (pieces .exit)) (now (trades .exit)) r ⌝ }
 {
     let mut book = b;
     let security = e.security as usize;
@@ -389,7 +395,7 @@ pub fn fill(
             pieces,
             trades,
             made,
-            row,
+            listing,
             turnover,
             entry,
             o,

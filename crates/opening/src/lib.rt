@@ -1,9 +1,11 @@
-// The opening of a trading day: counts and security rows are asked, and an empty state is handed back.
+// The opening of a trading day: its arguments are asked, and an empty state is handed back.
 use market::Answer;
 use market::Kind;
+use market::MAX_RATE;
 use market::Order;
 use market::Outcome;
 use market::Phase;
+use market::Rules;
 use market::Security;
 use market::Side;
 use market::State;
@@ -15,19 +17,19 @@ ghost use mathlib.Core.Path.{_≡_};
 ghost use Prim.Native.Nat.{_≤_};
 ghost use Rattle.market.specs.Limits.{maxSecurities};
 ghost use Rattle.market.specs.View.{view};
-ghost use Rattle.market.specs.Opening.{firstWrong, opened as openedDay};
+ghost use Rattle.market.specs.Opening.{opened as openedDay, wrongLine};
 ghost use Rattle.market.specs.Contract.{Opens};
 ghost use Rattle.opening.specs.Opening.{RefusedOpening};
 
 // The place of the first wrong row, from 1; 0 where all are in range.
-fn first_wrong(participants: u64, currencies: u64, securities: u64, table: [Security; 16]) -> u64
-    requires { ⌜ securities ≤ maxSecurities ⌝ }
-    ensures { λ r. ⌜ r ≡ firstWrong (record { participants = participants; currencies = currencies; securities = securities; table = table }) securities 0 ⌝ }
+fn first_wrong(rules: Rules) -> u64
+    requires { ⌜ rules .securities ≤ maxSecurities ⌝ }
+    ensures { λ r. ⌜ r ≡ wrongLine rules ⌝ }
 {
     let mut i: u64 = 0;
-    while i < securities {
-        let row = table[i as usize];
-        if !row_sound(currencies, row) {
+    while i < rules.securities {
+        let row = rules.table[i as usize];
+        if !row_sound(rules.currencies, row) {
             return i + 1;
         }
         i += 1;
@@ -35,10 +37,11 @@ fn first_wrong(participants: u64, currencies: u64, securities: u64, table: [Secu
     0
 }
 
-// Counts and table as given, everything else at zero.
-fn opened(participants: u64, currencies: u64, securities: u64, table: [Security; 16]) -> State
-    ensures { λ r. ⌜ view r ≡ openedDay (record { participants = participants; currencies = currencies; securities = securities; table = table }) ⌝ }
+// Counts, table and rate as given, everything else at zero.
+fn opened(rules: Rules) -> State
+    ensures { λ r. ⌜ view r ≡ openedDay rules ⌝ }
 {
+    let table = rules.table;
     let blank = Order {
         code: 0,
         participant: 0,
@@ -48,12 +51,12 @@ fn opened(participants: u64, currencies: u64, securities: u64, table: [Security;
         kind: Kind::Kept(0),
     };
     State {
-        participants,
-        currencies,
-        securities,
+        participants: rules.participants,
+        currencies: rules.currencies,
+        securities: rules.securities,
         table,
-        money: [0; 512],
-        pieces: [0; 512],
+        money: [0; 544],
+        pieces: [0; 544],
         orders: [blank; 128],
         count: 0,
         codes: 0,
@@ -62,6 +65,7 @@ fn opened(participants: u64, currencies: u64, securities: u64, table: [Security;
             pieces: 0,
             money: 0,
         }; 16],
+        rate: rules.rate,
     }
 }
 
@@ -69,36 +73,36 @@ fn opened(participants: u64, currencies: u64, securities: u64, table: [Security;
 pub fn refused_opening(number: u64, place: u64) -> Outcome
     ensures { λ r. ⌜ RefusedOpening number place r ⌝ }
 {
-    let state = opened(
-        0,
-        0,
-        0,
-        [Security {
+    let none = Rules {
+        participants: 0,
+        currencies: 0,
+        securities: 0,
+        table: [Security {
             currency: 0,
             lot: 0,
             step: 0,
         }; 16],
-    );
+        rate: 0,
+    };
+    let state = opened(none);
     Outcome {
         answer: Answer::Refused(number, place),
         state,
     }
 }
 
-pub fn opening(
-    participants: u64,
-    currencies: u64,
-    securities: u64,
-    table: [Security; 16],
-) -> Outcome
-    ensures { λ r. ⌜ Opens (record { participants = participants; currencies = currencies; securities = securities; table = table }) r ⌝ }
+pub fn opening(rules: Rules) -> Outcome
+    ensures { λ r. ⌜ Opens rules r ⌝ }
 {
-    if !counts_sound(participants, currencies, securities) {
+    if !counts_sound(rules.participants, rules.currencies, rules.securities) {
         return refused_opening(17, 0);
     }
-    let wrong = first_wrong(participants, currencies, securities, table);
+    let wrong = first_wrong(rules);
     if wrong != 0 {
         return refused_opening(18, wrong);
     }
-    accepted(opened(participants, currencies, securities, table))
+    if MAX_RATE < rules.rate {
+        return refused_opening(22, 0);
+    }
+    accepted(opened(rules))
 }

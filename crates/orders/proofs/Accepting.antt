@@ -8,7 +8,7 @@ use lib.ListN.{length, set}
 use borrow.Author.Tests.{ltb-true}
 use Rattle.market.specs.declared.Order.{Order}
 use Rattle.market.specs.declared.OrderBook.{OrderBook}
-use Rattle.market.specs.declared.Security.{Security}
+use Rattle.market.specs.declared.Listing.{Listing}
 use Rattle.market.specs.declared.TimeInForce.{TimeInForce}
 use Rattle.market.specs.declared.TimeInForce.the-variants.{FillOrKill, ImmediateOrCancel, Kept}
 use Rattle.market.specs.declared.Turnover.{Turnover}
@@ -51,7 +51,7 @@ priced-limit : (r : Rules) (t : List Turnover) (e : Order) → PricedOk r e → 
 priced-limit r t e h =
     omega (arith, kept-limit t e (is-kept r (e .security) (e .kind) h), (kept-price r (e .security) (e .kind) h) .1)
 
-module _ {r : Rules} {l : Security} {b : OrderBook} {e : Order} {f : TimeInForce} {m k : List ℕ}
+module _ {r : Rules} {l : Listing} {b : OrderBook} {e : Order} {f : TimeInForce} {m k : List ℕ}
     (a : Accepts r l b e f m k) where
   abbrev d : Day
   d = openDay r m k b
@@ -81,7 +81,7 @@ module _ {r : Rules} {l : Security} {b : OrderBook} {e : Order} {f : TimeInForce
   pub blockable : Blockable l (turnoverAt (b .turnover) (e .security)) e m k
   blockable =
       let p = passed in
-      blocks d l e (a .row) [] (a .standing .backed) (p .participant) (p .security)
+      blocks d l e (a .listing) [] (a .standing .backed) (p .participant) (p .security)
       (priced-limit r (b .turnover) e (p .priced)) (p .top) (p .covers)
 
   -- money m1 and pieces k1 with its need blocked, and its code given
@@ -94,10 +94,10 @@ module _ {r : Rules} {l : Security} {b : OrderBook} {e : Order} {f : TimeInForce
     unfolding admitted blockFor
     day-admitted =
         ap (λ (n : ℕ). withCodes (openDay r m1 k1 b1) n) (passed .code)
-        ∙ day-moved (withCodes d (b .codes + 1)) l e (a .row) block m1 k1 em ek
+        ∙ day-moved (withCodes d (b .codes + 1)) l e (a .listing) block m1 k1 em ek
 
     pub flies : Flies r l b1 e m1 k1
-    flies = record { row = a .row; flight = subst (λ (x : Day). InFlight x e) (sym day-admitted) (passed .flight) }
+    flies = record { listing = a .listing; flight = subst (λ (x : Day). InFlight x e) (sym day-admitted) (passed .flight) }
 
     -- and matched: order book b2, money m2, pieces k2
     module _ {m2 k2 v v2 : List ℕ} {b2 : OrderBook} (g : FilledAs (fill (openDay r m1 k1 b1) e) r e v m2 k2 v2 b2) where
@@ -130,7 +130,7 @@ module _ {r : Rules} {l : Security} {b : OrderBook} {e : Order} {f : TimeInForce
       freeable n en =
           let h = landed in
           part-frees l (turnoverAt (b2 .turnover) (e .security)) rest m2 k2 n (omega (arith, waits-part f rest))
-          (frees d2 l rest (a .row) (rest ∷ []) (h .backed) (h .participant) (h .security)
+          (frees d2 l rest (a .listing) (rest ∷ []) (h .backed) (h .participant) (h .security)
           (priced-limit r (b2 .turnover) rest (h .entryPriced)) (h .top) (λ y j. omega arith))
 
       -- and there is a place for what waits
@@ -154,7 +154,7 @@ module _ {r : Rules} {l : Security} {b : OrderBook} {e : Order} {f : TimeInForce
           (ek3 : k3 ≡ piecesWith release l (turnoverAt (b2 .turnover) (e .security)) (withLots rest (b2 .left - n)) k2) where
         freed : openDay r m3 k3 b2 ≡ releaseFor d2 (withLots rest (b2 .left - n))
         unfolding releaseFor
-        freed = day-moved d2 l (withLots rest (b2 .left - n)) (a .row) release m3 k3 em3 ek3
+        freed = day-moved d2 l (withLots rest (b2 .left - n)) (a .listing) release m3 k3 em3 ek3
 
         none-waits : n ≤ 0 → openDay r m3 k3 b2 ≡ finished f d2 rest
         none-waits h = day-done f d2 (openDay r m3 k3 b2) rest n en freed h

@@ -14,7 +14,8 @@ use Rattle.market.specs.declared.Rules.{Rules}
 use Rattle.market.specs.declared.TimeInForce.{TimeInForce}
 use Rattle.market.specs.declared.TimeInForce.the-variants.{FillOrKill}
 use Rattle.market.specs.Limits.{maxCodes, maxSecurities}
-use Rattle.market.specs.Day.{Day, row}
+use Rattle.market.specs.Day.{Day}
+use Rattle.market.specs.Parts.{listing}
 use Rattle.market.specs.View.{dayOf}
 use Rattle.market.specs.Sound.{isCollecting}
 use Rattle.market.specs.Questions.{Question, ask, entersIn, entryQuestions, firstNo, orderQuestions}
@@ -85,11 +86,11 @@ module _ (r : Rules) (x : Phase) (m k : List ℕ) (b : OrderBook) (standing : St
       enters = yes 6 (orderQuestions d p t f) yeses
 
       -- while collecting it is a kept one, which only waits
-      pub waits : isCollecting x ≡ true → {e : Order} → e ≡ entryWith (b .codes) p t → Admits r x (row r (t .security)) b e m k
+      pub waits : isCollecting x ≡ true → {e : Order} → e ≡ entryWith (b .codes) p t → Admits r x (listing r (t .security)) b e m k
       waits collects entry =
           rw entry
           (record {
-            row = refl;
+            listing = refl;
             standing = standing;
             placeable =
                 kept-placeable d p t
@@ -104,9 +105,9 @@ module _ (r : Rules) (x : Phase) (m k : List ℕ) (b : OrderBook) (standing : St
         pub same-day : d ≡ openDay r m k b
         same-day = ap (λ (z : Phase). dayOf r z m k b) opens
 
-        pub accepts : {e : Order} → e ≡ entryWith (b .codes) p t → Accepts r (row r (t .security)) b e f m k
+        pub accepts : {e : Order} → e ≡ entryWith (b .codes) p t → Accepts r (listing r (t .security)) b e f m k
         accepts entry = record {
-          row = ap (λ (o : Order). row r (o .security)) entry;
+          listing = ap (λ (o : Order). listing r (o .security)) entry;
           standing = subst Standing same-day standing;
           participant = p;
           member = t;

@@ -8,18 +8,20 @@ use borrow.Author.Tests.{ltb-true}
 use Rattle.market.specs.declared.Ticket.{Ticket}
 use Rattle.market.specs.declared.OrderBook.{OrderBook}
 use Rattle.market.specs.declared.Phase.{Phase}
-use Rattle.market.specs.declared.Security.{Security}
+use Rattle.market.specs.declared.Listing.{Listing}
 use Rattle.market.specs.declared.TimeInForce.{TimeInForce}
 use Rattle.market.specs.declared.TimeInForce.the-variants.{FillOrKill, ImmediateOrCancel, Kept}
 use Rattle.market.specs.declared.Turnover.{Turnover}
-use Rattle.market.specs.Limits.{maxLots, maxPrice, maxSecurities, maxStep}
+use Rattle.market.specs.Limits.{maxLots, maxPrice, maxSecurities}
 use Rattle.market.specs.declared.Rules.{Rules}
-use Rattle.market.specs.Day.{Day, row, turnoverAt}
+use Rattle.market.specs.Day.{Day, turnoverAt}
 use Rattle.market.specs.View.{dayOf}
-use Rattle.market.specs.Sound.{priceSound, rowSound, rulesSound}
+use Rattle.market.specs.Sound.{priceSound}
 use Rattle.market.specs.Calls.{entryOf}
 use Rattle.market.specs.Questions.{Question, ask, entryQuestions, fillable, firstNo, orderQuestions, roomFor}
-use Rattle.market.proofs.Logic.{and-true, below-all, within-high, within-low}
+use Rattle.market.proofs.Logic.{and-true, within-high}
+use Rattle.market.specs.Parts.{listing}
+use Rattle.market.proofs.Known.{listing-ok}
 use Rattle.market.proofs.Questions.{AllYes, all-yes, hides, passes}
 use Rattle.market.proofs.View.{first-length}
 use Rattle.matching.specs.Orders.{waitingIn}
@@ -29,14 +31,14 @@ use Rattle.orders.specs.Entering.{Askable, EntryNo, Known, earlyQuestion
 use Rattle.orders.specs.Entering.{orderNo, roomWith}
 
 -- the need of an entry with a good price can be reckoned
-pub reckonable : (l : Security) (t : Turnover) {codes p : ℕ} {m : Ticket} → Askable l codes p m
-    → priceSound l (m .price) ≡ true → Reckonable l t (entryWith codes p m)
+pub reckonable : (l : Listing) (t : Turnover) {codes p : ℕ} {m : Ticket} → Askable l codes p m
+    → priceSound (l .row) (m .price) ≡ true → Reckonable l t (entryWith codes p m)
 unfolding priceSound
 reckonable l t {codes} {p} {m} a price = record {
   participant = a .participant;
   security = a .security;
   currency = a .currency;
-  lot = a .lot;
+  listing = a .listing;
   limit = within-high 1 maxPrice (m .price) ((and-true price) .0);
   top = a .top;
 }
@@ -54,8 +56,8 @@ module _ (r : Rules) (x : Phase) (money pieces : List ℕ) (b : OrderBook) (p : 
   -- those from 4 to 14
   asked-in-parts : firstNo (entryQuestions d p m k)
       ≡ firstNo (earlyQuestions (r .participants) (r .securities) x p m k
-      ++ laterQuestions (row r (m .security)) (turnoverAt (b .turnover) (m .security)) (b .count) (b .codes) p m k money pieces)
-  asked-in-parts = rw (room-is k, covered-is d (row r (m .security)) (entryWith (b .codes) p m) refl)
+      ++ laterQuestions (listing r (m .security)) (turnoverAt (b .turnover) (m .security)) (b .count) (b .codes) p m k money pieces)
+  asked-in-parts = rw (room-is k, covered-is d (listing r (m .security)) (entryWith (b .codes) p m) refl)
 
   fillable-is : (k : TimeInForce) → fillableIn k (waitingIn b) (entryWith (b .codes) p m) ≡ fillable k d (entryOf d p m)
   fillable-is Kept = refl
@@ -75,7 +77,7 @@ module _ (r : Rules) (x : Phase) (codes p : ℕ) (m : Ticket) (k : TimeInForce) 
 
   abbrev later : List Turnover → (count codes : ℕ) → List ℕ → List ℕ → List Question
   later t count codes money pieces =
-      laterQuestions (row r (m .security)) (turnoverAt t (m .security)) count codes p m k money pieces
+      laterQuestions (listing r (m .security)) (turnoverAt t (m .security)) count codes p m k money pieces
 
   pub no-early : (t : List Turnover) (count : ℕ) (money pieces : List ℕ) (n : ℕ) → 0 < n → n ≡ firstNo early
       → EntryNo r x t count codes money pieces p m k n
@@ -94,19 +96,16 @@ module _ (r : Rules) (x : Phase) (codes p : ℕ) (m : Ticket) (k : TimeInForce) 
     pub in-rules : m .security < maxSecurities
     in-rules = omega (arith, listed, known .rules .securities)
 
-    pub askable : Askable (row r (m .security)) codes p m
-    unfolding rulesSound rowSound
+    pub askable : Askable (listing r (m .security)) codes p m
     askable =
         let ok = known .rules in
-        let l : rowSound (r .currencies) (row r (m .security)) ≡ true =
-        below-all (r .securities) (λ x. rowSound (r .currencies) (row r x)) ((and-true (ok .sound)) .1) (m .security) listed in
         record {
           given = known .codes;
-          step = within-low 1 maxStep ((row r (m .security)) .step) ((and-true ((and-true l) .1)) .1);
+          step = ok .step (m .security) listed;
           participant = omega (arith, ltb-true p (r .participants) (yeses .0), ok .participants);
           security = omega (arith, listed, ok .securities);
           currency = omega (arith, ok .currency (m .security) listed, ok .currencies);
-          lot = ok .lot (m .security) listed;
+          listing = listing-ok r (m .security) ok listed;
           top = within-high 1 maxLots (m .lots) (yeses .1 .1 .1 .0);
         }
 

@@ -14,7 +14,7 @@ use Rattle.market.specs.declared.Phase.{Phase}
 use Rattle.market.specs.declared.Rules.{Rules}
 use Rattle.market.specs.declared.TimeInForce.{TimeInForce}
 use Rattle.market.specs.Limits.{lentAtLeast, maxSecurities}
-use Rattle.market.specs.Day.{Day, row}
+use Rattle.market.specs.Day.{Day}
 use Rattle.market.specs.View.{dayOf}
 use Rattle.market.specs.Sound.{isCollecting}
 use Rattle.market.specs.TradeList.{written}
@@ -23,7 +23,7 @@ use Rattle.market.specs.Calls.{Call, order}
 use Rattle.market.specs.Questions.{Question, entryQuestions, firstNo, questions}
 use Rattle.market.specs.Entry.{entered, placed, taken}
 use Rattle.market.specs.Step.{effect}
-use Rattle.market.specs.Parts.{Carries, Ready}
+use Rattle.market.specs.Parts.{Carries, Ready, listing}
 use Rattle.market.proofs.Questions.{all-yes, yes}
 use Rattle.market.proofs.Entry.{enters-kept, taken-matched, taken-waits}
 use Rattle.market.proofs.Parts.{carries-accept, carries-refuse}
@@ -102,13 +102,13 @@ module _ (r : Rules) (x : Phase) (m k : List ℕ) (b : OrderBook) (ready : Ready
 
           -- while collecting it only waits
           module _ (collects : isCollecting x ≡ true) where
-            waits : Admits r x (row r (t .security)) b e m k
+            waits : Admits r x (listing r (t .security)) b e m k
             waits = answered.waits r x m k b standing p t f clear collects entry
 
-            pub appendable : Appendable (row r (t .security)) b e m k
+            pub appendable : Appendable (listing r (t .security)) b e m k
             appendable = record { rules = r; phase = x; admits = waits }
 
-            pub order-waits : (m′ k′ : List ℕ) (b′ : OrderBook) → Appends (row r (t .security)) b e m k m′ k′ b′
+            pub order-waits : (m′ k′ : List ℕ) (b′ : OrderBook) → Appends (listing r (t .security)) b e m k m′ k′ b′
                 → registers m′ k′ v b′
             unfolding effect placed
             order-waits m′ k′ b′ appends =
@@ -122,10 +122,10 @@ module _ (r : Rules) (x : Phase) (m k : List ℕ) (b : OrderBook) (ready : Ready
 
           -- otherwise it is matched
           module _ (matched : isCollecting x ≡ false) where
-            accepts : Accepts r (row r (t .security)) b e f m k
+            accepts : Accepts r (listing r (t .security)) b e f m k
             accepts = answered.accepts r x m k b standing p t f clear matched entry
 
-            pub enterable : Enterable (row r (t .security)) b e f m k v
+            pub enterable : Enterable (listing r (t .security)) b e f m k v
             enterable = record { rules = r; accepts = accepts; lent = omega (arith, lent, few-lots .room) }
 
             effect-is : effect d call ≡ entered (openDay r m k b) e f
@@ -135,7 +135,7 @@ module _ (r : Rules) (x : Phase) (m k : List ℕ) (b : OrderBook) (ready : Ready
                 ∙ ap (λ (z : Day). entered z e f) (answered.same-day r x m k b standing p t f clear matched)
 
             pub order-enters : (m′ k′ v′ : List ℕ) (b′ : OrderBook)
-                → Enters (row r (t .security)) b e f m k v m′ k′ v′ b′ → registers m′ k′ v′ b′
+                → Enters (listing r (t .security)) b e f m k v m′ k′ v′ b′ → registers m′ k′ v′ b′
             order-enters m′ k′ v′ b′ enters =
                 let y = enters r accepts in
                 let phase = answered.opens r x m k b standing p t f clear matched in

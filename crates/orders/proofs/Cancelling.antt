@@ -12,13 +12,13 @@ use Rattle.market.specs.declared.OrderBook.{OrderBook}
 use Rattle.market.specs.declared.Phase.{Phase}
 use Rattle.market.specs.declared.Rules.{Rules}
 use Rattle.market.specs.Limits.{maxSecurities}
-use Rattle.market.specs.Day.{Day, row, orderAt}
+use Rattle.market.specs.Day.{Day, orderAt}
 use Rattle.market.specs.View.{dayOf}
 use Rattle.market.specs.Waiting.{Index, firstIndex, later, leave, nowhere, indexIn, indexOf, somewhere}
 use Rattle.market.specs.Calls.{cancel}
 use Rattle.market.specs.Questions.{questions}
 use Rattle.market.specs.Step.{effect}
-use Rattle.market.specs.Parts.{Carries, Ready}
+use Rattle.market.specs.Parts.{Carries, Ready, listing}
 use Rattle.market.proofs.Parts.{carries-accept, carries-refuse}
 use Rattle.market.proofs.View.{first-length}
 use Rattle.invariant.specs.Standing.{Standing}
@@ -83,17 +83,17 @@ module _ (r : Rules) (x : Phase) (m k : List ℕ) (b : OrderBook) (p c : ℕ) (r
       its-own : s ≡ (orderAt (b .orders) i) .security
       its-own = subst (OfSecurity (b .orders)) found own
 
-      holds : Holds r x (row r s) b i m k
-      holds = record { waits = waits; row = ap (row r) (sym its-own); standing = standing }
+      holds : Holds r x (listing r s) b i m k
+      holds = record { waits = waits; listing = ap (listing r) (sym its-own); standing = standing }
 
       pub found-known : s < maxSecurities
       found-known = omega (arith, its-own, leaver-known holds)
 
-      pub found-leaves : Leavable (row r s) b i m k
+      pub found-leaves : Leavable (listing r s) b i m k
       found-leaves = record { rules = r; phase = x; holds = holds }
 
       pub cancel-carries : (m′ k′ : List ℕ) (b′ : OrderBook) → p < r .participants
-          → Leaves (row r s) b i m k m′ k′ b′
+          → Leaves (listing r s) b i m k m′ k′ b′
           → Carries r x m k b [] (cancel p c) m′ k′ [] (record { answer = Done c 0 0 0; phase = x; book = b′ })
       unfolding questions effect
       cancel-carries m′ k′ b′ h leaves =

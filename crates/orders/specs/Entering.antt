@@ -10,14 +10,14 @@ use Rattle.market.specs.declared.Ticket.{Ticket}
 use Rattle.market.specs.declared.Order.{Order}
 use Rattle.market.specs.declared.OrderBook.{OrderBook}
 use Rattle.market.specs.declared.Phase.{Phase}
-use Rattle.market.specs.declared.Security.{Security}
+use Rattle.market.specs.declared.Listing.{Listing}
 use Rattle.market.specs.declared.TimeInForce.{TimeInForce}
 use Rattle.market.specs.declared.TimeInForce.the-variants.{FillOrKill, ImmediateOrCancel, Kept}
 use Rattle.market.specs.declared.Turnover.{Turnover}
-use Rattle.market.specs.Limits.{columns, maxCodes, maxLot, maxLots, maxWaiting, numbersPerTrade}
+use Rattle.market.specs.Limits.{columns, maxCodes, maxLots, maxWaiting, numbersPerTrade}
 use Rattle.market.specs.Tests.{_<?_, _≤?_, known}
 use Rattle.market.specs.declared.Rules.{Rules}
-use Rattle.market.specs.Day.{Day, row}
+use Rattle.market.specs.Day.{Day}
 use Rattle.market.specs.View.{dayOf}
 use Rattle.market.specs.Sound.{lotsSound, priceSound}
 use Rattle.market.specs.TradeList.{written}
@@ -26,6 +26,7 @@ use Rattle.market.specs.Calls.{entryOf}
 use Rattle.market.specs.Matching.{fitting}
 use Rattle.market.specs.Questions.{Question, ask, entersIn, entryQuestions, firstNo, orderQuestions}
 use Rattle.market.specs.Entry.{entered}
+use Rattle.market.specs.Parts.{ListingOk, listing}
 use Rattle.market.proofs.Known.{RulesOk}
 use Rattle.invariant.specs.Standing.{Standing}
 use Rattle.matching.specs.Filling.{openDay}
@@ -65,22 +66,22 @@ earlyQuestions participants securities x p m k =
     ask 6 (entersIn k x) ∷
     ask 7 (lotsSound (m .lots)) ∷ []
 
--- those that read row and turnover of the order's security, its participant's positions, and counts
-abbrev pub laterQuestions : Security → Turnover → ℕ → ℕ → ℕ → Ticket → TimeInForce → List ℕ → List ℕ → List Question
+-- those that read listing and turnover of the order's security, its participant's positions, and counts
+abbrev pub laterQuestions : Listing → Turnover → ℕ → ℕ → ℕ → Ticket → TimeInForce → List ℕ → List ℕ → List Question
 laterQuestions l t count codes p m k money pieces =
-    ask 8 (priceSound l (m .price)) ∷
+    ask 8 (priceSound (l .row) (m .price)) ∷
     ask 12 (roomWith k count) ∷
     ask 13 (codes <? maxCodes) ∷
     ask 14 (coveredBy l t (entryWith codes p m) money pieces) ∷ []
 
 -- these can be asked
-pub record Askable (l : Security) (codes p : ℕ) (m : Ticket) : Type 0 where
+pub record Askable (l : Listing) (codes p : ℕ) (m : Ticket) : Type 0 where
   pub given : codes ≤ maxCodes
-  pub step : 0 < l .step
+  pub step : 0 < l .row .step
   pub participant : p < columns
   pub security : m .security < columns
-  pub currency : l .currency < columns
-  pub lot : l .lot ≤ maxLot
+  pub currency : l .row .currency < columns
+  pub listing : ListingOk l
   pub top : m .lots ≤ maxLots
 
 -- the rules are sound, and the codes given are within the limit
@@ -94,9 +95,9 @@ EntryNo r x t count codes m k p ticket f n =
     (b : OrderBook) → b .turnover ≡ t → b .count ≡ count → b .codes ≡ codes
     → n ≡ firstNo (entryQuestions (dayOf r x m k b) p ticket f)
 
--- under rules r, l is the row of the entry's security, the day is sound, and e is an order that passed its questions
-pub record Accepts (r : Rules) (l : Security) (b : OrderBook) (e : Order) (f : TimeInForce) (m k : List ℕ) : Type 0 where
-  pub row : row r (e .security) ≡ l
+-- under rules r, l is the listing of the entry's security, the day is sound, and e is an order that passed its questions
+pub record Accepts (r : Rules) (l : Listing) (b : OrderBook) (e : Order) (f : TimeInForce) (m k : List ℕ) : Type 0 where
+  pub listing : listing r (e .security) ≡ l
   pub standing : Standing (openDay r m k b)
   pub participant : ℕ
   pub member : Ticket
@@ -104,7 +105,7 @@ pub record Accepts (r : Rules) (l : Security) (b : OrderBook) (e : Order) (f : T
   pub asked : orderNo (openDay r m k b) participant member f ≡ 0
 
 -- there are such rules, and room for a trade with each waiting order
-pub record Enterable (l : Security) (b : OrderBook) (e : Order) (f : TimeInForce) (m k v : List ℕ) : Type 0 where
+pub record Enterable (l : Listing) (b : OrderBook) (e : Order) (f : TimeInForce) (m k v : List ℕ) : Type 0 where
   pub rules : Rules
   pub accepts : Accepts rules l b e f m k
   pub lent : numbersPerTrade * b .count ≤ length v
@@ -116,6 +117,6 @@ pub record EntersAs (x : Result) (r : Rules) (v m′ k′ v′ : List ℕ) (b′
   pub list : v′ ≡ written (x .trades) v
 
 -- the definition's, under all such rules
-abbrev pub Enters : Security → OrderBook → Order → TimeInForce → (m k v m′ k′ v′ : List ℕ) → OrderBook → Type 0
+abbrev pub Enters : Listing → OrderBook → Order → TimeInForce → (m k v m′ k′ v′ : List ℕ) → OrderBook → Type 0
 Enters l b e f m k v m′ k′ v′ b′ =
     (r : Rules) → Accepts r l b e f m k → EntersAs (entered (openDay r m k b) e f) r v m′ k′ v′ b′

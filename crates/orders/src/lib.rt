@@ -1,11 +1,12 @@
 // Order entry of the three kinds, and cancellation. Questions are asked by functions that only read, so that a refusal copies nothing;
-// `enter` then moves lent positions and hands the order book on. `row` and `turnover` are those of the order's security.
+// `enter` then moves lent positions and hands the order book on. `listing` and `turnover` are those of the order's security.
 use amounts::price_sound;
 use amounts::within;
 use market::Answer;
 use market::Carried;
 use market::Kind;
 use market::LENT_AT_LEAST;
+use market::Listing;
 use market::MAX_CODES;
 use market::MAX_LOTS;
 use market::MAX_WAITING;
@@ -13,7 +14,6 @@ use market::Order;
 use market::OrderBook;
 use market::Phase;
 use market::Rules;
-use market::Security;
 use market::Ticket;
 use market::TimeInForce;
 use market::Turnover;
@@ -128,9 +128,9 @@ fn early_no(
 
 // The first "no" of questions 8 and 12 to 14; 0 where there is none.
 fn later_no<'a>(
-    money: &'a [u64; 512],
-    pieces: &'a [u64; 512],
-    row: Security,
+    money: &'a [u64; 544],
+    pieces: &'a [u64; 544],
+    listing: Listing,
     turnover: Turnover,
     count: usize,
     codes: u64,
@@ -138,10 +138,10 @@ fn later_no<'a>(
     member: Ticket,
     force: TimeInForce,
 ) -> u64
-    requires { ⌜ Askable row codes participant member ⌝ }
-    ensures { λ r. ⌜ r ≡ firstNo (laterQuestions row turnover count codes participant member force (now (money .entry)) (now (pieces .entry))) ⌝ }
+    requires { ⌜ Askable listing codes participant member ⌝ }
+    ensures { λ r. ⌜ r ≡ firstNo (laterQuestions listing turnover count codes participant member force (now (money .entry)) (now (pieces .entry))) ⌝ }
 {
-    if !price_sound(row, member.price) {
+    if !price_sound(listing.row, member.price) {
         return 8;
     }
     if !has_room(count, force) {
@@ -151,7 +151,7 @@ fn later_no<'a>(
         return 13;
     }
     let entry = entry_of(codes, participant, member);
-    if !covers(money, pieces, row, turnover, entry) {
+    if !covers(money, pieces, listing, turnover, entry) {
         return 14;
     }
     0
@@ -164,8 +164,8 @@ pub fn order_no<'a>(
     turnovers: [Turnover; 16],
     count: usize,
     codes: u64,
-    money: &'a [u64; 512],
-    pieces: &'a [u64; 512],
+    money: &'a [u64; 544],
+    pieces: &'a [u64; 544],
     participant: u64,
     ticket: Ticket,
     force: TimeInForce,
@@ -188,10 +188,14 @@ pub fn order_no<'a>(
     let table = rules.table;
     let row = table[security];
     let turnover = turnovers[security];
+    let listing = Listing {
+        row,
+        rate: rules.rate,
+    };
     later_no(
         money,
         pieces,
-        row,
+        listing,
         turnover,
         count,
         codes,
@@ -217,18 +221,18 @@ pub fn enter(
     b: OrderBook,
     entry: Order,
     force: TimeInForce,
-    row: Security,
-    money: &mut [u64; 512],
-    pieces: &mut [u64; 512],
+    listing: Listing,
+    money: &mut [u64; 544],
+    pieces: &mut [u64; 544],
     trades: &mut [u64],
 ) -> OrderBook
-    requires { ⌜ Enterable row b entry force (now money) (now pieces) (now trades) ⌝ }
-    ensures { λ r. ⌜ Enters row b entry force (now (money .entry)) (now (pieces .entry)) (now (trades .entry)) (now (money .exit)) (now (pieces .exit)) (now (trades .exit)) r ⌝ }
+    requires { ⌜ Enterable listing b entry force (now money) (now pieces) (now trades) ⌝ }
+    ensures { λ r. ⌜ Enters listing b entry force (now (money .entry)) (now (pieces .entry)) (now (trades .entry)) (now (money .exit)) (now (pieces .exit)) (now (trades .exit)) r ⌝ }
 {
     let security = entry.security as usize;
     let before = b.turnover[security];
-    block_need(money, pieces, row, before, entry);
-    let mut book = fill(b, entry, row, money, pieces, trades);
+    block_need(money, pieces, listing, before, entry);
+    let mut book = fill(b, entry, listing, money, pieces, trades);
     let rest = with_lots(entry, book.left);
     let waits = left_waiting(force, rest);
     let after = book.turnover[security];
@@ -236,7 +240,7 @@ pub fn enter(
     free_need(
         money,
         pieces,
-        row,
+        listing,
         after,
         with_lots(rest, rest.lots - waits),
     );
@@ -257,8 +261,8 @@ pub fn order(
     participant: u64,
     ticket: Ticket,
     force: TimeInForce,
-    money: &mut [u64; 512],
-    pieces: &mut [u64; 512],
+    money: &mut [u64; 544],
+    pieces: &mut [u64; 544],
     trades: &mut [u64],
 ) -> Carried
     requires { ⌜ Ready rules phase (now money) (now pieces) b ⌝ }
@@ -289,11 +293,15 @@ pub fn order(
     }
     let table = rules.table;
     let row = table[ticket.security as usize];
+    let listing = Listing {
+        row,
+        rate: rules.rate,
+    };
     if is_collecting(phase) {
-        let placed = append(b, entry, row, money, pieces);
+        let placed = append(b, entry, listing, money, pieces);
         return registered(placed, phase);
     }
-    let entered = enter(b, entry, force, row, money, pieces, trades);
+    let entered = enter(b, entry, force, listing, money, pieces, trades);
     registered(entered, phase)
 }
 
@@ -328,8 +336,8 @@ pub fn cancel(
     phase: Phase,
     participant: u64,
     code: u64,
-    money: &mut [u64; 512],
-    pieces: &mut [u64; 512],
+    money: &mut [u64; 544],
+    pieces: &mut [u64; 544],
 ) -> Carried
     requires { ⌜ Ready rules phase (now money) (now pieces) b ⌝ }
     ensures { λ r. ⌜ Carries rules phase (now (money .entry)) (now (pieces .entry)) b [] (cancelCall participant code) (now (money .exit)) (now (pieces .exit)) [] r ⌝ }
@@ -343,7 +351,11 @@ pub fn cancel(
     };
     let table = rules.table;
     let row = table[security as usize];
-    let book = leave(b, at, row, money, pieces);
+    let listing = Listing {
+        row,
+        rate: rules.rate,
+    };
+    let book = leave(b, at, listing, money, pieces);
     Carried {
         answer: Answer::Done(code, 0, 0, 0),
         phase,

@@ -1,6 +1,5 @@
 -- What holds at the head of the pairing loop: from here the definition comes to the same as from the start.
 use Prim.Native.Nat.{ℕ, _+_, _*_, _≤_, _<_, min}
-use native.Mathlib.Nat.{mul-le-mul-left, mul-le-mul-right}
 use native.Mathlib.Omega.{arith}
 use mathlib.Core.Path.{_≡_, refl, ap, sym, _∙_, subst}
 use mathlib.Core.List.{List, [], _∷_}
@@ -9,10 +8,10 @@ use borrow.Author.Tests.{leb-true}
 use Rattle.market.specs.declared.Order.{Order}
 use Rattle.market.specs.declared.OrderBook.{OrderBook}
 use Rattle.market.specs.declared.Phase.{Phase}
-use Rattle.market.specs.declared.Security.{Security}
+use Rattle.market.specs.declared.Listing.{Listing}
 use Rattle.market.specs.declared.Side.the-variants.{Buy, Sell}
 use Rattle.market.specs.declared.Turnover.{Turnover}
-use Rattle.market.specs.Limits.{maxCodes, maxLot, maxLots, maxPieces, maxPrice, maxSecurities, maxWaiting, numbersPerTrade}
+use Rattle.market.specs.Limits.{maxCodes, maxLots, maxPrice, maxSecurities, maxWaiting, numbersPerTrade}
 use Rattle.market.specs.declared.Rules.{Rules}
 use Rattle.market.specs.Day.{Asset, Day, Money, Pieces, row, noOrder, orderAt, turnoverAt}
 use Rattle.market.specs.View.{dayOf}
@@ -23,7 +22,9 @@ use Rattle.market.specs.Matching.{Best, found, none}
 use Rattle.market.specs.Pairing.{Paired, Terms, counterparty, firstBuy, firstSell, pairedOff, pairs}
 use Rattle.market.specs.Pairing.{takeBoth}
 use Rattle.market.proofs.Lists.{All, all-at, all-map, sum-remove}
-use Rattle.market.proofs.Known.{OrderOk}
+use Rattle.market.specs.Parts.{listing}
+use Rattle.market.proofs.Needs.{pieces-small, sum-small}
+use Rattle.market.proofs.Known.{OrderOk, listing-ok}
 use Rattle.market.proofs.Matching.{Chosen, best-chosen}
 use Rattle.market.proofs.Pairs.{Meeting, meet-apart, meets, pairs-no-buy, pairs-no-sell, pairs-one}
 use Rattle.market.proofs.View.{first-length}
@@ -38,11 +39,11 @@ use Rattle.matching.proofs.Writing.{written-length, written-next, writtenFrom}
 use Rattle.pairing.specs.Pairing.{Counts, Meets, PairedAs}
 use Rattle.pairing.proofs.Keeping.{Positive}
 
--- the parts at the start: rules, phase, row, security, terms, money, pieces, order book, lent list
+-- the parts at the start: rules, phase, listing, security, terms, money, pieces, order book, lent list
 pub record Start : Type 0 where
   pub r : Rules
   pub x : Phase
-  pub l : Security
+  pub l : Listing
   pub s : ℕ
   pub t : Terms
   pub m : List ℕ
@@ -209,41 +210,31 @@ module _ {g : Start} {m k v : List ℕ} {b : OrderBook} {made : ℕ} (h : Going 
         let lot = st .backed .rulesOk .lot (buy .security) (buyOk .security) in
         let codes = leb-true (b .codes) maxCodes (st .limit) in
         let x = row (g .r) (buy .security) in
-        let some = few-pieces x (omega (arith, buyOk .top)) lot in
+        let lots : n ≤ maxLots = omega (arith, buyOk .top) in
         record {
           roomQ = omega (arith, q .top);
           roomT = omega (arith, q .top, q .high);
-          few = some;
-          low = low-sum x (omega (arith, fair, limit)) some;
+          few = pieces-small x n lot lots;
+          low = sum-small x p n lot (omega (arith, fair, limit)) lots;
         }
-      where
-        few-pieces : (x : Security) → n ≤ maxLots → x .lot ≤ maxLot → piecesOf x n ≤ maxPieces
-        few-pieces x hn lot =
-            unfold piecesOf in
-            (let y = mul-le-mul-right (x .lot) hn in let z = mul-le-mul-left maxLots lot in omega arith)
-
-        low-sum : (x : Security) → p ≤ maxPrice → piecesOf x n ≤ maxPieces → sumFor x p n ≤ maxPrice * maxPieces
-        low-sum x hp hn =
-            unfold sumFor in
-            (let y = mul-le-mul-right (piecesOf x n) hp in let z = mul-le-mul-left maxPrice hn in omega arith)
 
     pub going-lent : numbersPerTrade * made + numbersPerTrade ≤ length v
     going-lent = omega (arith, h .count, h .counts .lent, h .long, going-buy)
 
-    abbrev Ready : Security → Turnover → Order → Order → ℕ → Type 0
+    abbrev Ready : Listing → Turnover → Order → Order → ℕ → Type 0
     Ready x q y z w = Executable x q y z p w made m k v
 
     ready : Ready (g .l) (turnoverAt (g .b .turnover) (g .s)) buy sell n
     ready =
         subst (λ (x : List Turnover). Ready (g .l) (turnoverAt x (g .s)) buy sell n) (h .turnover)
-        (subst (λ (x : Security). Ready x (turnoverAt (b .turnover) (g .s)) buy sell n) (h .meets .row)
-        (subst (λ (x : ℕ). Ready (row (g .r) x) (turnoverAt (b .turnover) x) buy sell n) (sym (buys .security))
+        (subst (λ (x : Listing). Ready x (turnoverAt (b .turnover) (g .s)) buy sell n) (h .meets .listing)
+        (subst (λ (x : ℕ). Ready (listing (g .r) x) (turnoverAt (b .turnover) x) buy sell n) (sym (buys .security))
         (record {
           settles =
               settles [] d (st .backed) buy sell p n buyOk sellOk (buys .side) (sells .side) same fair (omega arith) (omega arith)
-              (listed i (buys .inside) Money) (listed j (sells .inside) Pieces);
+              (listed i (buys .inside) Money) (listed j (sells .inside) Pieces) (omega (arith, fair, limit));
           reckoned = record {
-            lot = st .backed .rulesOk .lot (buy .security) (buyOk .security);
+            listing = listing-ok (g .r) (buy .security) (st .backed .rulesOk) (buyOk .security);
             limit = limit;
             top = buyOk .top;
             part = omega arith;
@@ -266,13 +257,13 @@ module _ {g : Start} {m k v : List ℕ} {b : OrderBook} {made : ℕ} (h : Going 
           (done : Executes (g .l) (turnoverAt (g .b .turnover) (g .s)) y z p w made m k v m′ k′ v′ q)
           (waiting : waitingIn b′ ≡ takeBoth (waitingIn b) i j w) (codes : b′ .codes ≡ b .codes)
           (turnover : b′ .turnover ≡ b .turnover) (left : b′ .left ≡ b .left) (filled : b′ .filled ≡ b .filled + w) where
-        abbrev Did : Security → Turnover → Order → Order → ℕ → Type 0
+        abbrev Did : Listing → Turnover → Order → Order → ℕ → Type 0
         Did x e f o u = Executes x e f o p u made m k v m′ k′ v′ q
 
-        exact : Did (row (g .r) (buy .security)) (turnoverAt (b .turnover) (buy .security)) buy sell n
+        exact : Did (listing (g .r) (buy .security)) (turnoverAt (b .turnover) (buy .security)) buy sell n
         exact =
-            subst (λ (x : ℕ). Did (row (g .r) x) (turnoverAt (b .turnover) x) buy sell n) (buys .security)
-            (subst (λ (x : Security). Did x (turnoverAt (b .turnover) (g .s)) buy sell n) (sym (h .meets .row))
+            subst (λ (x : ℕ). Did (listing (g .r) x) (turnoverAt (b .turnover) x) buy sell n) (buys .security)
+            (subst (λ (x : Listing). Did x (turnoverAt (b .turnover) (g .s)) buy sell n) (sym (h .meets .listing))
             (subst (λ (x : List Turnover). Did (g .l) (turnoverAt x (g .s)) buy sell n) (sym (h .turnover))
             (subst (λ (x : ℕ). Did (g .l) (turnoverAt (g .b .turnover) (g .s)) buy sell x) part
             (subst (λ (x : Order). Did (g .l) (turnoverAt (g .b .turnover) (g .s)) buy x w) other
@@ -320,7 +311,7 @@ module _ {g : Start} {m k v : List ℕ} {b : OrderBook} {made : ℕ} (h : Going 
             let listed : v′ ≡ tradeWritten made trade v = exact .list in
             record {
               meets = record {
-                row = h .meets .row;
+                listing = h .meets .listing;
                 known = h .meets .known;
                 standing =
                     subst Standing (sym after)

@@ -11,10 +11,11 @@ use Rattle.market.specs.declared.Phase.{Phase}
 use Rattle.market.specs.Limits.{maxSecurities, maxWaiting}
 use Rattle.market.specs.Tests.{removeAt}
 use Rattle.market.specs.declared.Rules.{Rules}
-use Rattle.market.specs.Day.{Day, row, noOrder, orderAt, turnoverAt, withPhase, withWaiting}
+use Rattle.market.specs.Day.{Day, noOrder, orderAt, turnoverAt, withPhase, withWaiting}
 use Rattle.market.specs.View.{dayOf}
 use Rattle.market.specs.Needs.{needAt}
 use Rattle.market.specs.Positions.{release, releaseFor}
+use Rattle.market.specs.Parts.{listing}
 use Rattle.market.specs.Waiting.{allLeave, leave, leaveFirst}
 use Rattle.market.proofs.View.{first-length}
 use Rattle.market.proofs.Lists.{all-at, sum-remove}
@@ -91,24 +92,24 @@ module _ {r : Rules} {x : Phase} {b : OrderBook} {m₀ k₀ m k : List ℕ} {i :
     pub leaving-security : o .security < maxSecurities
     leaving-security = omega (arith, known .security, g .standing .backed .rulesOk .securities)
 
-    pub leaving-ready : Freeable (row r (o .security)) (turnoverAt (b .turnover) (o .security)) o m k
+    pub leaving-ready : Freeable (listing r (o .security)) (turnoverAt (b .turnover) (o .security)) o m k
     leaving-ready =
         let kind = subst (KindOk d) first (all-at (KindOk d) noOrder (d .waiting) 0 (g .standing .kinds) inside) in
-        frees d (row r (o .security)) o refl [] (g .standing .backed) (known .participant) (known .security)
+        frees d (listing r (o .security)) o refl [] (g .standing .backed) (known .participant) (known .security)
         (limit-fits d (g .standing) o known kind) (known .top)
         (λ y j.
         subst (λ (z : Order). needAt y r (b .turnover) j z ≤ needsOf y d (d .waiting) j) first
         (omega (arith, sum-remove (needAt y r (b .turnover) j) noOrder (d .waiting) 0 inside)))
 
     module _ {m′ k′ : List ℕ}
-        (em : m′ ≡ moneyWith release (row r (o .security)) (turnoverAt (b .turnover) (o .security)) o m)
-        (ek : k′ ≡ piecesWith release (row r (o .security)) (turnoverAt (b .turnover) (o .security)) o k) where
+        (em : m′ ≡ moneyWith release (listing r (o .security)) (turnoverAt (b .turnover) (o .security)) o m)
+        (ek : k′ ≡ piecesWith release (listing r (o .security)) (turnoverAt (b .turnover) (o .security)) o k) where
       after : restDay r x m′ k′ b (i + 1) ≡ leave d 0
       unfolding leave releaseFor
       after =
           ap (withWaiting (dayOf r x m′ k′ b)) (sym (remove-first (d .waiting) ∙ drop-drop 1 i (waitingIn b)))
           ∙ ap (λ (e : Day). withWaiting e (removeAt (d .waiting) 0))
-          (day-moved d (row r (o .security)) o refl release m′ k′ em ek)
+          (day-moved d (listing r (o .security)) o refl release m′ k′ em ek)
           ∙ ap (λ (z : Order). withWaiting (releaseFor d z) (removeAt (d .waiting) 0)) (sym first)
 
       pub leaving-next : Leaving r x b m₀ k₀ m′ k′ (i + 1)

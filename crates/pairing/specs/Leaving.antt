@@ -4,7 +4,6 @@ use mathlib.Core.Path.{_≡_}
 use mathlib.Core.List.{List}
 use Rattle.market.specs.declared.OrderBook.{OrderBook}
 use Rattle.market.specs.declared.Phase.{Phase}
-use Rattle.market.specs.declared.Security.{Security}
 use Rattle.market.specs.declared.Rules.{Rules}
 use Rattle.market.specs.View.{dayOf}
 use Rattle.market.specs.Waiting.{allLeave}
@@ -22,15 +21,12 @@ emptied b = record {
   trades = b .trades;
 }
 
--- under some rules with the table l, in some phase, the day of these parts is sound
-pub record Leavable (l : List Security) (b : OrderBook) (m k : List ℕ) : Type 0 where
-  pub rules : Rules
+-- in some phase, the day of these parts is sound
+pub record Leavable (r : Rules) (b : OrderBook) (m k : List ℕ) : Type 0 where
   pub phase : Phase
-  pub table : rules .table ≡ l
-  pub standing : Standing (dayOf rules phase m k b)
+  pub standing : Standing (dayOf r phase m k b)
 
--- under all such rules, the emptied book and these positions are the definition's day, whatever the next phase
-abbrev pub AllLeft : List Security → OrderBook → (m k m′ k′ : List ℕ) → Type 0
-AllLeft l b m k m′ k′ =
-    (r : Rules) (x y : Phase) → r .table ≡ l → Standing (dayOf r x m k b)
-    → dayOf r y m′ k′ (emptied b) ≡ allLeave (dayOf r x m k b) y
+-- in all such phases, the emptied book and these positions are the definition's day, whatever the next phase
+abbrev pub AllLeft : Rules → OrderBook → (m k m′ k′ : List ℕ) → Type 0
+AllLeft r b m k m′ k′ =
+    (x y : Phase) → Standing (dayOf r x m k b) → dayOf r y m′ k′ (emptied b) ≡ allLeave (dayOf r x m k b) y

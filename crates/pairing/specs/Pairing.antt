@@ -7,14 +7,14 @@ use lib.ListN.{length}
 use Rattle.market.specs.declared.Order.{Order}
 use Rattle.market.specs.declared.OrderBook.{OrderBook}
 use Rattle.market.specs.declared.Phase.{Phase}
-use Rattle.market.specs.declared.Security.{Security}
+use Rattle.market.specs.declared.Listing.{Listing}
 use Rattle.market.specs.Limits.{maxLots, maxWaiting, numbersPerTrade}
 use Rattle.market.specs.Tests.{_<?_}
 use Rattle.market.specs.declared.Rules.{Rules}
-use Rattle.market.specs.Day.{row}
 use Rattle.market.specs.View.{dayOf}
 use Rattle.market.specs.TradeList.{lotsOf}
 use Rattle.market.specs.Pairing.{Paired, Terms, pairs}
+use Rattle.market.specs.Parts.{listing}
 use Rattle.invariant.specs.Standing.{Standing}
 use Rattle.invariant.proofs.Pairing.{Fair}
 use Rattle.matching.proofs.Writing.{writtenFrom}
@@ -23,9 +23,9 @@ use Rattle.matching.proofs.Writing.{writtenFrom}
 abbrev pub slots : Order → ℕ
 slots o = cond (0 <? o .lots) 1 0
 
--- under rules r, in phase x, l is the row of security s, the day is sound, and the terms t are fair to its buys
-pub record Meets (r : Rules) (x : Phase) (l : Security) (s : ℕ) (t : Terms) (b : OrderBook) (m k : List ℕ) : Type 0 where
-  pub row : row r s ≡ l
+-- under rules r, in phase x, l is the listing of security s, the day is sound, and the terms t are fair to its buys
+pub record Meets (r : Rules) (x : Phase) (l : Listing) (s : ℕ) (t : Terms) (b : OrderBook) (m k : List ℕ) : Type 0 where
+  pub listing : listing r s ≡ l
   pub known : s < r .securities
   pub standing : Standing (dayOf r x m k b)
   pub fair : Fair s t (dayOf r x m k b)
@@ -37,7 +37,7 @@ pub record Counts (b : OrderBook) (v : List ℕ) : Type 0 where
   pub lent : numbersPerTrade * (b .trades + b .count) ≤ length v
 
 -- there are such rules and such a phase
-pub record Pairable (l : Security) (s : ℕ) (t : Terms) (b : OrderBook) (m k v : List ℕ) : Type 0 where
+pub record Pairable (l : Listing) (s : ℕ) (t : Terms) (b : OrderBook) (m k v : List ℕ) : Type 0 where
   pub rules : Rules
   pub phase : Phase
   pub meets : Meets rules phase l s t b m k
@@ -54,7 +54,7 @@ pub record PairedAs (p : Paired) (r : Rules) (x : Phase) (b : OrderBook) (v m′
     pub left : b′ .left ≡ b .left
 
 -- and there is room for what comes next
-pub record Pairs (l : Security) (s : ℕ) (t : Terms) (b : OrderBook) (m k v m′ k′ v′ : List ℕ) (b′ : OrderBook) : Type 0
+pub record Pairs (l : Listing) (s : ℕ) (t : Terms) (b : OrderBook) (m k v m′ k′ v′ : List ℕ) (b′ : OrderBook) : Type 0
   where
     pub counts : Counts b′ v′
     pub long : length v′ ≡ length v

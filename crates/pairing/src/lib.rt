@@ -1,9 +1,10 @@
 // What the sessions outside continuous trading share: the first buy with the first sell of a security, over and over, and
 // all waiting orders come off. Positions and the trade list are lent, the order book goes by value.
 use market::Kind;
+use market::Listing;
 use market::Order;
 use market::OrderBook;
-use market::Security;
+use market::Rules;
 use market::Side;
 use matching::Found;
 use matching::execute;
@@ -17,23 +18,22 @@ ghost use Rattle.pairing.specs.Leaving.{AllLeft, Leavable};
 ghost use Rattle.pairing.specs.Pairing.{Pairable, Pairs, slots};
 
 // The needs of all waiting orders are freed. The caller's book has no orders then: `book.count = 0`.
-pub fn free_all(
-    book: OrderBook,
-    table: [Security; 16],
-    money: &mut [u64; 512],
-    pieces: &mut [u64; 512],
-)
-    requires { ⌜ Leavable table book (now money) (now pieces) ⌝ }
-    ensures { λ _. ⌜ AllLeft table book (now (money .entry)) (now (pieces .entry)) (now (money .exit)) (now (pieces .exit)) ⌝ }
+pub fn free_all(book: OrderBook, rules: Rules, money: &mut [u64; 544], pieces: &mut [u64; 544])
+    requires { ⌜ Leavable rules book (now money) (now pieces) ⌝ }
+    ensures { λ _. ⌜ AllLeft rules book (now (money .entry)) (now (pieces .entry)) (now (money .exit)) (now (pieces .exit)) ⌝ }
 {
     let count = book.count;
     let mut i: usize = 0;
     while i < count {
         let o = book.orders[i];
         let security = o.security as usize;
-        let row = table[security];
+        let row = rules.table[security];
         let turnover = book.turnover[security];
-        free_need(money, pieces, row, turnover, o);
+        let listing = Listing {
+            row,
+            rate: rules.rate,
+        };
+        free_need(money, pieces, listing, turnover, o);
         i += 1;
     }
 }
@@ -66,13 +66,13 @@ pub fn pair_all(
     security: u64,
     limit: Kind,
     price: u64,
-    row: Security,
-    money: &mut [u64; 512],
-    pieces: &mut [u64; 512],
+    listing: Listing,
+    money: &mut [u64; 544],
+    pieces: &mut [u64; 544],
     trades: &mut [u64],
 ) -> OrderBook
-    requires { ⌜ Pairable row security (record { limit = limit; price = price }) b (now money) (now pieces) (now trades) ⌝ }
-    ensures { λ r. ⌜ Pairs row security (record { limit = limit; price = price }) b (now (money .entry)) (now (pieces .entry)) (now (trades .entry)) (now (money .exit)) (now (pieces .exit)) (now (trades .exit)) r ⌝ }
+    requires { ⌜ Pairable listing security (record { limit = limit; price = price }) b (now money) (now pieces) (now trades) ⌝ }
+    ensures { λ r. ⌜ Pairs listing security (record { limit = limit; price = price }) b (now (money .entry)) (now (pieces .entry)) (now (trades .entry)) (now (money .exit)) (now (pieces .exit)) (now (trades .exit)) r ⌝ }
 {
     let mut book = b;
     let turnover = book.turnover[security as usize];
@@ -105,7 +105,7 @@ pub fn pair_all(
             pieces,
             trades,
             made,
-            row,
+            listing,
             turnover,
             buy,
             sell,

@@ -153,7 +153,7 @@ fn put_columns(
     letter: u8,
     participant: u64,
     columns: u64,
-    positions: &[u64; 512],
+    positions: &[u64; 544],
 ) -> usize
     requires { ⌜ (participant < maxParticipants) × (columns ≤ maxColumns) ⌝ }
     requires { ⌜ at + columns * lineRoom 4 ≤ length (now out) ⌝ }
@@ -177,7 +177,7 @@ fn put_participants(
     letter: u8,
     participants: u64,
     columns: u64,
-    positions: &[u64; 512],
+    positions: &[u64; 544],
 ) -> usize
     requires { ⌜ (participants ≤ maxParticipants) × (columns ≤ maxColumns) ⌝ }
     requires { ⌜ at + participants * (columns * lineRoom 4) ≤ length (now out) ⌝ }
@@ -198,8 +198,8 @@ pub fn put_positions<'a>(
     participants: u64,
     currencies: u64,
     securities: u64,
-    money: &'a [u64; 512],
-    pieces: &'a [u64; 512],
+    money: &'a [u64; 544],
+    pieces: &'a [u64; 544],
 ) -> usize
     requires { ⌜ (participants ≤ maxParticipants) × (currencies ≤ maxCurrencies) × (securities ≤ maxSecurities) ⌝ }
     requires { ⌜ at + maxParticipants * (maxCurrencies + maxSecurities) * lineRoom 4 ≤ length (now out) ⌝ }

@@ -34,10 +34,17 @@ kindRoom = wordedRoom 2 1
 abbrev pub waitsRoom : ℕ
 waitsRoom = 5 + 21 * 4 + sideRoom + kindRoom
 
--- all lines of the end
-abbrev pub endRoom : ℕ
-endRoom =
+abbrev pub accountRoom : ℕ
+accountRoom = wordedRoom 6 2
+
+-- the lines of the end but for the market's account
+abbrev pub dayRoom : ℕ
+dayRoom =
     positionsRoom + phaseRoom + maxSecurities * turnoverRoom + codesRoom + maxWaiting * waitsRoom
+
+-- all of them
+abbrev pub endRoom : ℕ
+endRoom = dayRoom + maxCurrencies * accountRoom
 
 -- what a command, with the lines that SHOW prints, or the end take at most
 abbrev pub room : ℕ

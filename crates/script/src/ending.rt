@@ -1,4 +1,5 @@
-// The lines of the end: positions, phase, turnovers, codes given, waiting orders.
+// The lines of the end: positions, phase, turnovers, codes given, waiting orders, the market's account.
+use amounts::account_cell;
 use market::Kind;
 use market::MAX_CURRENCIES;
 use market::MAX_PARTICIPANTS;
@@ -17,8 +18,8 @@ ghost use mathlib.Core.Path.{_≡_};
 ghost use mathlib.Core.Bool.{true};
 ghost use Prim.Native.Nat.{_+_, _*_, _≤_};
 ghost use lib.ListN.{length};
-ghost use Rattle.market.specs.Limits.{maxSecurities, maxWaiting};
-ghost use Rattle.script.specs.Rooms.{Adds, Counts, endRoom, kindRoom, phaseRoom, sideRoom, turnoverRoom, waitsRoom};
+ghost use Rattle.market.specs.Limits.{maxCurrencies, maxSecurities, maxWaiting};
+ghost use Rattle.script.specs.Rooms.{Adds, Counts, accountRoom, dayRoom, endRoom, kindRoom, phaseRoom, sideRoom, turnoverRoom, waitsRoom};
 
 fn put_phase(out: &mut [u8], at: usize, phase: Phase) -> usize
     requires { ⌜ at + phaseRoom ≤ length (now out) ⌝ }
@@ -124,13 +125,35 @@ fn in_limits(participants: u64, currencies: u64, securities: u64, count: usize) 
     count as u64 <= MAX_WAITING
 }
 
-pub fn put_end(out: &mut [u8], at: usize, s: State) -> usize
-    requires { ⌜ at + endRoom ≤ length (now out) ⌝ }
-    ensures { λ r. ⌜ Adds endRoom (now (out .entry)) at (now (out .exit)) r ⌝ }
+// The market's account in one currency, and in the first `currencies`.
+fn put_account(out: &mut [u8], at: usize, currency: u64, amount: u64) -> usize
+    requires { ⌜ at + accountRoom ≤ length (now out) ⌝ }
+    ensures { λ r. ⌜ Adds accountRoom (now (out .entry)) at (now (out .exit)) r ⌝ }
 {
-    if !in_limits(s.participants, s.currencies, s.securities, s.count) {
-        return at;
+    let numbers = [currency, amount];
+    put_worded(out, at, b"MARKET", &numbers)
+}
+
+fn put_accounts(out: &mut [u8], at: usize, money: [u64; 544], currencies: u64) -> usize
+    requires { ⌜ currencies ≤ maxCurrencies ⌝ }
+    requires { ⌜ at + maxCurrencies * accountRoom ≤ length (now out) ⌝ }
+    ensures { λ r. ⌜ Adds (maxCurrencies * accountRoom) (now (out .entry)) at (now (out .exit)) r ⌝ }
+{
+    let mut end = at;
+    let mut i: u64 = 0;
+    while i < currencies {
+        end = put_account(out, end, i, money[2 * account_cell(i)]);
+        i += 1;
     }
+    end
+}
+
+// Positions, phase, turnovers, codes given and waiting orders.
+fn put_day(out: &mut [u8], at: usize, s: State) -> usize
+    requires { ⌜ Counts (s .participants) (s .currencies) (s .securities) (s .count) ⌝ }
+    requires { ⌜ at + dayRoom ≤ length (now out) ⌝ }
+    ensures { λ r. ⌜ Adds dayRoom (now (out .entry)) at (now (out .exit)) r ⌝ }
+{
     let money = s.money;
     let pieces = s.pieces;
     let phase = s.phase;
@@ -150,4 +173,16 @@ pub fn put_end(out: &mut [u8], at: usize, s: State) -> usize
     let c = put_turnovers(out, b, turnovers, s.securities);
     let d = put_worded(out, c, b"CODES", &codes);
     put_orders(out, d, orders, s.count)
+}
+
+pub fn put_end(out: &mut [u8], at: usize, s: State) -> usize
+    requires { ⌜ at + endRoom ≤ length (now out) ⌝ }
+    ensures { λ r. ⌜ Adds endRoom (now (out .entry)) at (now (out .exit)) r ⌝ }
+{
+    if !in_limits(s.participants, s.currencies, s.securities, s.count) {
+        return at;
+    }
+    let end = put_day(out, at, s);
+    let money = s.money;
+    put_accounts(out, end, money, s.currencies)
 }

@@ -3,9 +3,12 @@
 mod ending;
 mod words;
 
+use dayfile::MAX_TEXT;
 use dayfile::begin;
+use dayfile::is_done;
 use ending::put_end;
 use heading::MALFORMED;
+use heading::opened_with;
 use lines::Line;
 use market::Answer;
 use market::Call;
@@ -17,7 +20,9 @@ use printing::put_answer;
 use printing::put_trades;
 use reading::Reading;
 use reading::command_at;
+use words::Heading;
 use words::Word;
+use words::heading_at;
 use words::word_at;
 ghost use Prim.Native.Nat.{_+_, _≤_, _<_};
 ghost use lib.ListN.{length};
@@ -160,8 +165,8 @@ fn command(text: &[u8], p: Play, trades: &mut [u64], out: &mut [u8]) -> Play
     }
 }
 
-// Reads the heading, and puts its answer into the buffer.
-pub fn start(text: &[u8], out: &mut [u8]) -> Play
+// A heading as a day file has it.
+fn start_plain(text: &[u8], out: &mut [u8]) -> Play
     requires { ⌜ room ≤ length (now out) ⌝ }
     ensures { λ r. ⌜ Starts (now (out .entry)) r (now (out .exit)) ⌝ }
 {
@@ -174,6 +179,32 @@ pub fn start(text: &[u8], out: &mut [u8]) -> Play
         filled: r.filled,
         lent: LENT_AT_LEAST,
         over: r.over,
+    }
+}
+
+// Reads the heading, and puts its answer into the buffer.
+pub fn start(text: &[u8], out: &mut [u8]) -> Play
+    requires { ⌜ room ≤ length (now out) ⌝ }
+    ensures { λ r. ⌜ Starts (now (out .entry)) r (now (out .exit)) ⌝ }
+{
+    if MAX_TEXT < text.len() {
+        return start_plain(text, out);
+    }
+    let word = heading_at(text);
+    let Heading::Rated(participants, currencies, securities, rate, from) = word else {
+        return start_plain(text, out);
+    };
+    let heading = opened_with(text, from, participants, currencies, securities, rate);
+    let outcome = heading.outcome;
+    let answer = outcome.answer;
+    let state = outcome.state;
+    Play {
+        state,
+        at: heading.at,
+        line: heading.next,
+        filled: put_answer(out, 0, heading.line, answer),
+        lent: LENT_AT_LEAST,
+        over: !is_done(answer),
     }
 }
 

@@ -35,18 +35,77 @@ fn is_same(a: &[u8], b: &[u8]) -> bool {
     true
 }
 
+// No line of a script has more numbers.
+const MAX_NUMBERS: usize = 4;
+
+// The numbers of a line, each behind a comma, and how many there are.
+struct Numbers {
+    count: usize,
+    list: [u64; 4],
+}
+
+// The numbers from `from` to the line's end; none where something else stands there.
+fn numbers_from(line: &[u8], from: usize) -> Numbers
+    requires { ⌜ from ≤ length (now line) ⌝ }
+{
+    let none = Numbers {
+        count: 0,
+        list: [0; 4],
+    };
+    let mut list = [0u64; 4];
+    let mut count: usize = 0;
+    let mut at = from;
+    while at < line.len() {
+        if count == MAX_NUMBERS {
+            return none;
+        }
+        if line[at] != COMMA {
+            return none;
+        }
+        let start = at + 1;
+        let end = bytes::scan::find(line, start, line.len(), COMMA);
+        let Value::Good(v) = number(&line[start..end]) else {
+            return none;
+        };
+        list[count] = v;
+        count += 1;
+        at = end;
+    }
+    Numbers { count, list }
+}
+
 // `LENT,n`, whose first field ends at `end`.
 fn lend_word(line: &[u8], end: usize) -> Word
     requires { ⌜ end ≤ length (now line) ⌝ }
 {
-    if line.len() <= end {
+    let numbers = numbers_from(line, end);
+    if numbers.count != 1 {
         return Word::Other;
     }
-    let start = end + 1;
-    let Value::Good(n) = number(&line[start..]) else {
-        return Word::Other;
-    };
-    Word::Lend(n)
+    Word::Lend(numbers.list[0])
+}
+
+// What an `H` line with a rate says, and where its text goes on; a day file's `H` has none.
+pub enum Heading {
+    Rated(u64, u64, u64, u64, usize),
+    Other,
+}
+
+pub fn heading_at(text: &[u8]) -> Heading {
+    let end = bytes::scan::find(text, 0, text.len(), LINE_END);
+    let line = &text[..end];
+    if line.len() == 0 {
+        return Heading::Other;
+    }
+    if line[0] != b'H' {
+        return Heading::Other;
+    }
+    let numbers = numbers_from(line, 1);
+    if numbers.count != 4 {
+        return Heading::Other;
+    }
+    let v = numbers.list;
+    Heading::Rated(v[0], v[1], v[2], v[3], end + 1)
 }
 
 // A line's word, where it has that word's fields.

@@ -12,13 +12,14 @@ use Rattle.market.specs.declared.Rules.{Rules}
 use Rattle.market.specs.declared.Side.{Side}
 use Rattle.market.specs.declared.Turnover.{Turnover}
 use Rattle.market.specs.Limits.{maxCodes, maxLots, maxSecurities}
-use Rattle.market.specs.Day.{Day, row, turnoverAt}
+use Rattle.market.specs.Day.{Day, turnoverAt}
 use Rattle.market.specs.View.{dayOf}
 use Rattle.market.specs.Calls.{Call, closingOrder}
 use Rattle.market.specs.Questions.{Question, closingQuestions, firstNo, questions}
 use Rattle.market.specs.Entry.{placed}
 use Rattle.market.specs.Step.{effect}
-use Rattle.market.specs.Parts.{Carries, Ready}
+use Rattle.market.specs.Parts.{Carries, Ready, listing}
+use Rattle.market.proofs.Known.{listing-ok}
 use Rattle.market.proofs.Logic.{within-high}
 use Rattle.market.proofs.Questions.{AllYes, all-yes, hides, passes, yes}
 use Rattle.market.proofs.Parts.{carries-accept, carries-refuse}
@@ -37,10 +38,10 @@ use Rattle.session.specs.Asking.{closingWith, earlyClosing, laterClosing
 asked-in-parts : (r : Rules) (x : Phase) (m k : List ℕ) (b : OrderBook) (p : ℕ) (side : Side) (s n : ℕ)
     → firstNo (closingQuestions (dayOf r x m k b) p side s n)
     ≡ firstNo (earlyClosing (r .participants) (r .securities) x p s n
-    ++ laterClosing (row r s) (turnoverAt (b .turnover) s) (b .count) (b .codes) (closingWith (b .codes) p side s n) m k)
+    ++ laterClosing (listing r s) (turnoverAt (b .turnover) s) (b .count) (b .codes) (closingWith (b .codes) p side s n) m k)
 unfolding closingQuestions
 asked-in-parts r x m k b p side s n =
-    rw (first-length (b .count) (b .orders), ← covered-is (dayOf r x m k b) (row r s) (closingWith (b .codes) p side s n) refl)
+    rw (first-length (b .count) (b .orders), ← covered-is (dayOf r x m k b) (listing r s) (closingWith (b .codes) p side s n) refl)
 
 -- the first "no", where so many codes are given
 module _ (r : Rules) (x : Phase) (codes p : ℕ) (side : Side) (s n : ℕ) where
@@ -48,7 +49,7 @@ module _ (r : Rules) (x : Phase) (codes p : ℕ) (side : Side) (s n : ℕ) where
   early = earlyClosing (r .participants) (r .securities) x p s n
 
   abbrev later : List Turnover → (count codes : ℕ) → (m k : List ℕ) → Order → List Question
-  later t count codes m k o = laterClosing (row r s) (turnoverAt t s) count codes o m k
+  later t count codes m k o = laterClosing (listing r s) (turnoverAt t s) count codes o m k
 
   pub no-early : (t : List Turnover) (count : ℕ) (m k : List ℕ) (i : ℕ) → 0 < i → i ≡ firstNo early
       → ClosingNo r x t count codes m k p side s n i
@@ -67,7 +68,7 @@ module _ (r : Rules) (x : Phase) (codes p : ℕ) (side : Side) (s n : ℕ) where
     pub in-rules : s < maxSecurities
     in-rules = omega (arith, listed, ask .rules .securities)
 
-    pub reckonable : {o : Order} → o ≡ closingWith codes p side s n → Reckonable (row r s) (turnoverAt t s) o
+    pub reckonable : {o : Order} → o ≡ closingWith codes p side s n → Reckonable (listing r s) (turnoverAt t s) o
     reckonable e =
         let ok = ask .rules in
         rw e
@@ -75,7 +76,7 @@ module _ (r : Rules) (x : Phase) (codes p : ℕ) (side : Side) (s n : ℕ) where
           participant = omega (arith, ltb-true p (r .participants) (yeses .0), ok .participants);
           security = omega (arith, listed, ok .securities);
           currency = omega (arith, ok .currency s listed, ok .currencies);
-          lot = ok .lot s listed;
+          listing = listing-ok r s ok listed;
           limit = ask .prices s listed;
           top = within-high 1 maxLots n (yeses .1 .1 .1 .0);
         })
@@ -130,13 +131,13 @@ module _ (r : Rules) (x : Phase) (m k : List ℕ) (b : OrderBook) (ready : Ready
           omega (arith, ltb-true s (r .securities) (yes 5 asked yeses-all), standing .backed .rulesOk .securities)
 
       module _ {o : Order} (entry : o ≡ closingWith (b .codes) p side s n) where
-        admits : Admits r x (row r s) b o m k
-        admits = rw entry (record { row = refl; standing = standing; placeable = closing-placeable d p side s n none })
+        admits : Admits r x (listing r s) b o m k
+        admits = rw entry (record { listing = refl; standing = standing; placeable = closing-placeable d p side s n none })
 
-        pub appendable : Appendable (row r s) b o m k
+        pub appendable : Appendable (listing r s) b o m k
         appendable = record { rules = r; phase = x; admits = admits }
 
-        pub appended : {m′ k′ : List ℕ} (b′ : OrderBook) → Appends (row r s) b o m k m′ k′ b′
+        pub appended : {m′ k′ : List ℕ} (b′ : OrderBook) → Appends (listing r s) b o m k m′ k′ b′
             → Carries r x m k b [] call m′ k′ []
             (record { answer = Done (b′ .codes) (b′ .filled) (b′ .left) (b′ .trades); phase = x; book = b′ })
         unfolding questions effect placed

@@ -33,7 +33,7 @@ use Rattle.invariant.specs.Standing.{Standing}
 use Rattle.invariant.proofs.Sound.{ready-standing}
 use Rattle.pairing.specs.Leaving.{AllLeft, Leavable, emptied}
 use Rattle.pairing.proofs.Leaving.{count-room}
-use Rattle.session.specs.Sessions.{Endable, Ends, EndsAs, Stands, endsIn, nextPhase, phaseOf, startsAt, termsOf}
+use Rattle.session.specs.Sessions.{Endable, Ends, EndsAs, endsIn, nextPhase, phaseOf, startsAt, termsOf}
 
 -- the questions of an end, what it does, and its phase
 end-asks : (z : Session) (d : Day) (n : ℕ)
@@ -77,8 +77,8 @@ module _ {r : Rules} {x : Phase} {m k : List ℕ} {b : OrderBook} (g : Ready r x
   abbrev d : Day
   d = dayOf r x m k b
 
-  pub leavable : Leavable (r .table) b m k
-  leavable = record { rules = r; phase = x; table = refl; standing = ready-standing g }
+  pub leavable : Leavable r b m k
+  leavable = record { phase = x; standing = ready-standing g }
 
   -- the start of a session
   module _ (z : Session) where
@@ -93,7 +93,7 @@ module _ {r : Rules} {x : Phase} {m k : List ℕ} {b : OrderBook} (g : Ready r x
       start-late e =
           carries-refuse r x m k b [] (startOf z) (g .sound) 21 (omega arith) (start-asks z d 0 ∙ rw (opens, e))
 
-      pub started : {m′ k′ : List ℕ} → startsAt z (b .codes) ≡ true → AllLeft (r .table) b m k m′ k′
+      pub started : {m′ k′ : List ℕ} → startsAt z (b .codes) ≡ true → AllLeft r b m k m′ k′
           → Carries r x m k b [] (startOf z) m′ k′ []
           (record { answer = Done 0 0 0 0; phase = phaseOf z; book = emptied b })
       started {m′} {k′} e left =
@@ -101,7 +101,7 @@ module _ {r : Rules} {x : Phase} {m k : List ℕ} {b : OrderBook} (g : Ready r x
           let same = start-effect z d st e in
           carries-accept r x m k b [] (startOf z) (g .sound) m′ k′ [] _ (start-asks z d 0 ∙ rw (opens, e))
           (sym (ap (λ (w : Result). w .answer) same))
-          (left r x (phaseOf z) refl st ∙ sym (ap (λ (w : Result). w .day) same))
+          (left x (phaseOf z) st ∙ sym (ap (λ (w : Result). w .day) same))
           (sym (ap (λ (w : Result). written (w .trades) []) same))
 
   -- the end of a session
@@ -123,26 +123,18 @@ module _ {r : Rules} {x : Phase} {m k : List ℕ} {b : OrderBook} (g : Ready r x
         here : x ≡ phaseOf z
         here = ends-phase z x ends
 
-        stands : Stands z r (r .securities) (r .table) b m k
-        stands = record {
-          securities = refl;
-          table = refl;
-          standing = subst (λ (y : Phase). Standing (dayOf r y m k b)) here (ready-standing g);
-        }
-
-        pub endable : Endable z (r .securities) (r .table) b m k v
+        pub endable : Endable z r b m k v
         endable = record {
-          rules = r;
-          stands = stands;
+          standing = subst (λ (y : Phase). Standing (dayOf r y m k b)) here (ready-standing g);
           lent = omega (arith, lent, count-room b ((ready-standing g) .room));
         }
 
-        pub ended : {m′ k′ v′ : List ℕ} (b′ : OrderBook) → Ends z (r .securities) (r .table) b m k v m′ k′ v′ b′
+        pub ended : {m′ k′ v′ : List ℕ} (b′ : OrderBook) → Ends z r b m k v m′ k′ v′ b′
             → Carries r x m k b v (endOf z) m′ k′ v′
             (record { answer = Done 0 (b′ .filled) 0 (b′ .trades); phase = nextPhase z; book = b′ })
         ended {m′} {k′} {v′} b′ done =
             let e : EndsAs z (effect d (endOf z)) r v m′ k′ v′ b′ =
             subst (λ (w : Result). EndsAs z w r v m′ k′ v′ b′) (sym (end-effect z d))
-            (subst (λ (y : Phase). EndsAs z (endedBy z (dayOf r y m k b)) r v m′ k′ v′ b′) (sym here) (done r stands)) in
+            (subst (λ (y : Phase). EndsAs z (endedBy z (dayOf r y m k b)) r v m′ k′ v′ b′) (sym here) done) in
             carries-accept r x m k b v (endOf z) (g .sound) m′ k′ v′ _
             (end-asks z d (length v) ∙ rw (le-leb lentAtLeast (length v) lent, ends)) (e .answer) (e .day) (e .list)

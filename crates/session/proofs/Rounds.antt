@@ -8,13 +8,13 @@ use mathlib.Core.List.{List, [], _∷_, _++_}
 use lib.ListN.{length, length-append, take-append-drop}
 use Rattle.market.specs.declared.OrderBook.{OrderBook}
 use Rattle.market.specs.declared.Phase.{Phase}
-use Rattle.market.specs.declared.Security.{Security}
 use Rattle.market.specs.Limits.{maxWaiting, numbersPerTrade}
 use Rattle.market.specs.declared.Rules.{Rules}
 use Rattle.market.specs.declared.Session.{Session}
 use Rattle.market.specs.declared.Session.the-variants.{Closing, Collecting}
-use Rattle.market.specs.Day.{Day, row}
+use Rattle.market.specs.Day.{Day}
 use Rattle.market.specs.View.{dayOf}
+use Rattle.market.specs.Parts.{listing}
 use Rattle.market.specs.Waiting.{allLeave}
 use Rattle.market.specs.TradeList.{Trade, lotsOf}
 use Rattle.market.specs.Pairing.{Paired, Terms, endResult, followed, pairs, pairsFrom}
@@ -27,7 +27,7 @@ use Rattle.matching.specs.Written.{tradeWritten}
 use Rattle.matching.proofs.Writing.{written-length, written-next, writtenFrom}
 use Rattle.pairing.specs.Leaving.{AllLeft, emptied}
 use Rattle.pairing.specs.Pairing.{Counts, Meets, PairedAs}
-use Rattle.session.specs.Sessions.{EndsAs, Stands, cleared, nextPhase, pairedFrom, phaseOf, termsOf, termsWith}
+use Rattle.session.specs.Sessions.{EndsAs, cleared, nextPhase, pairedFrom, phaseOf, termsOf, termsWith}
 
 -- one list of trades written after another
 written-append : (ts us : List Trade) (n : ℕ) (v : List ℕ) → numbersPerTrade * (n + length ts) ≤ length v
@@ -81,10 +81,6 @@ rounds-start z r n m k v b st =
       list = ap (λ (x : Paired). writtenFrom 0 (x .trades) v) same;
     }
 
-pub cleared-stands : {z : Session} {r : Rules} {n : ℕ} {l : List Security} {b : OrderBook} {m k : List ℕ}
-    → Stands z r n l b m k → Stands z r n l (cleared b) m k
-cleared-stands f = record { securities = f .securities; table = f .table; standing = f .standing }
-
 pub counts-start : (b : OrderBook) (v : List ℕ) → b .count ≤ maxWaiting → numbersPerTrade * b .count ≤ length v
     → Counts (cleared b) v
 counts-start b v room lent = record { most = omega arith; few = omega arith; lent = omega arith }
@@ -111,17 +107,16 @@ module _ {z : Session} {r : Rules} {n : ℕ} {m₀ k₀ v₀ : List ℕ} {b₀ :
         left = g .left;
       }
 
-  module _ (more : s < n) (all : r .securities ≡ n) {l : Security} (own : row r s ≡ l) {terms : Terms}
-      (reckoned : terms ≡ termsWith z b s) where
+  module _ (more : s < n) (all : r .securities ≡ n) {terms : Terms} (reckoned : terms ≡ termsWith z b s) where
     abbrev d : Day
     d = dayOf r (phaseOf z) m k b
 
     terms-are : terms ≡ termsOf z d s
     terms-are = reckoned ∙ terms-of z r (phaseOf z) m k b s
 
-    pub rounds-meets : Meets r (phaseOf z) l s terms b m k
+    pub rounds-meets : Meets r (phaseOf z) (listing r s) s terms b m k
     rounds-meets = record {
-      row = own;
+      listing = refl;
       known = omega arith;
       standing = g .standing;
       fair = subst (λ (t : Terms). Fair s t d) (sym terms-are) (terms-fair z d s (g .standing) refl);
@@ -173,19 +168,18 @@ module _ {z : Session} {r : Rules} {n : ℕ} {m₀ k₀ v₀ : List ℕ} {b₀ :
         }
 
 -- the rest comes off
-module _ {z : Session} {r : Rules} {n : ℕ} {l : List Security} {m₀ k₀ v₀ : List ℕ} {b₀ : OrderBook} (c : Stands z r n l b₀ m₀ k₀)
-    {m k v : List ℕ} {b : OrderBook} (p : PairedAs (pairedFrom z r n 0 m₀ k₀ b₀) r (phaseOf z) (cleared b₀) v₀ m k v b) where
+module _ (z : Session) (b₀ : OrderBook) {x : Paired} {r : Rules} {v₀ m k v : List ℕ} {b : OrderBook}
+    (p : PairedAs x r (phaseOf z) (cleared b₀) v₀ m k v b) where
   pub paired-standing : Standing (dayOf r (phaseOf z) m k b)
   paired-standing = subst Standing (sym (p .day)) (p .standing)
 
-  pub paired-ends : {m′ k′ : List ℕ} → AllLeft l b m k m′ k′
-      → EndsAs z (endResult (nextPhase z) (pairedFrom z r n 0 m₀ k₀ b₀)) r v₀ m′ k′ v (emptied b)
+  pub paired-ends : {m′ k′ : List ℕ} → AllLeft r b m k m′ k′
+      → EndsAs z (endResult (nextPhase z) x) r v₀ m′ k′ v (emptied b)
   paired-ends left =
-      let x = pairedFrom z r n 0 m₀ k₀ b₀ in
       let lots : b .filled ≡ lotsOf (x .trades) = p .lots ∙ zero-add _ in
       let count : b .trades ≡ length (x .trades) = p .trades ∙ zero-add _ in
       record {
         answer = rw (lots, count);
-        day = left r (phaseOf z) (nextPhase z) (c .table) paired-standing ∙ ap (λ (d : Day). allLeave d (nextPhase z)) (p .day);
+        day = left (phaseOf z) (nextPhase z) paired-standing ∙ ap (λ (d : Day). allLeave d (nextPhase z)) (p .day);
         list = p .list;
       }

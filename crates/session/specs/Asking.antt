@@ -6,7 +6,7 @@ use Rattle.market.specs.declared.Kind.the-variants as kind
 use Rattle.market.specs.declared.Order.{Order}
 use Rattle.market.specs.declared.OrderBook.{OrderBook}
 use Rattle.market.specs.declared.Phase.{Phase}
-use Rattle.market.specs.declared.Security.{Security}
+use Rattle.market.specs.declared.Listing.{Listing}
 use Rattle.market.specs.declared.Side.{Side}
 use Rattle.market.specs.declared.Turnover.{Turnover}
 use Rattle.market.specs.Limits.{maxCodes, maxPrice, maxWaiting}
@@ -39,8 +39,8 @@ earlyClosing participants securities x p s n =
     ask 6 (isClosing x) ∷
     ask 7 (lotsSound n) ∷ []
 
--- those that read row and turnover of the order's security, its participant's positions, and counts
-abbrev pub laterClosing : Security → Turnover → (count codes : ℕ) → Order → (m k : List ℕ) → List Question
+-- those that read listing and turnover of the order's security, its participant's positions, and counts
+abbrev pub laterClosing : Listing → Turnover → (count codes : ℕ) → Order → (m k : List ℕ) → List Question
 laterClosing l t count codes o m k =
     ask 11 (hasTraded t) ∷
     ask 12 (count <? maxWaiting) ∷

@@ -10,7 +10,6 @@ use Rattle.market.specs.declared.OrderBook.{OrderBook}
 use Rattle.market.specs.declared.Phase.{Phase}
 use Rattle.market.specs.declared.Phase.the-variants as phase
 use Rattle.market.specs.declared.Rules.{Rules}
-use Rattle.market.specs.declared.Security.{Security}
 use Rattle.market.specs.declared.Session.{Session}
 use Rattle.market.specs.declared.Session.the-variants.{Closing, Collecting}
 use Rattle.market.specs.Limits.{numbersPerTrade}
@@ -67,26 +66,19 @@ cleared b = record {
   trades = 0;
 }
 
--- rules r have n securities with the table l, and the day of these parts is sound in the session's phase
-pub record Stands (z : Session) (r : Rules) (n : ℕ) (l : List Security) (b : OrderBook) (m k : List ℕ) : Type 0 where
-  pub securities : r .securities ≡ n
-  pub table : r .table ≡ l
+-- the day of these parts is sound in the session's phase, and there is room for a trade with each waiting order
+pub record Endable (z : Session) (r : Rules) (b : OrderBook) (m k v : List ℕ) : Type 0 where
   pub standing : Standing (dayOf r (phaseOf z) m k b)
-
--- there are such rules, and room for a trade with each waiting order
-pub record Endable (z : Session) (n : ℕ) (l : List Security) (b : OrderBook) (m k v : List ℕ) : Type 0 where
-  pub rules : Rules
-  pub stands : Stands z rules n l b m k
   pub lent : numbersPerTrade * b .count ≤ length v
 
 -- the pairing of n securities from s on
 abbrev pub pairedFrom : Session → Rules → (n s : ℕ) → (m k : List ℕ) → OrderBook → Paired
 pairedFrom z r n s m k b = pairsFrom (termsOf z) n s (dayOf r (phaseOf z) m k b)
 
--- under all such rules, the definition's pairing of the session
-abbrev pub PairsAll : Session → (n : ℕ) → List Security → OrderBook → (m k v m′ k′ v′ : List ℕ) → OrderBook → Type 0
-PairsAll z n l b m k v m′ k′ v′ b′ =
-    (r : Rules) → Stands z r n l b m k → PairedAs (pairedFrom z r n 0 m k b) r (phaseOf z) (cleared b) v m′ k′ v′ b′
+-- the definition's pairing of the session
+abbrev pub PairsAll : Session → Rules → OrderBook → (m k v m′ k′ v′ : List ℕ) → OrderBook → Type 0
+PairsAll z r b m k v m′ k′ v′ b′ =
+    PairedAs (pairedFrom z r (r .securities) 0 m k b) r (phaseOf z) (cleared b) v m′ k′ v′ b′
 
 -- answer, day and lent list are those of a result
 pub record EndsAs (z : Session) (x : Result) (r : Rules) (v m′ k′ v′ : List ℕ) (b′ : OrderBook) : Type 0 where
@@ -94,8 +86,7 @@ pub record EndsAs (z : Session) (x : Result) (r : Rules) (v m′ k′ v′ : Lis
   pub day : dayOf r (nextPhase z) m′ k′ b′ ≡ x .day
   pub list : v′ ≡ written (x .trades) v
 
--- under all such rules, the definition's end of the session
-abbrev pub Ends : Session → (n : ℕ) → List Security → OrderBook → (m k v m′ k′ v′ : List ℕ) → OrderBook → Type 0
-Ends z n l b m k v m′ k′ v′ b′ =
-    (r : Rules) → Stands z r n l b m k
-    → EndsAs z (endResult (nextPhase z) (pairedFrom z r n 0 m k b)) r v m′ k′ v′ b′
+-- the definition's end of the session
+abbrev pub Ends : Session → Rules → OrderBook → (m k v m′ k′ v′ : List ℕ) → OrderBook → Type 0
+Ends z r b m k v m′ k′ v′ b′ =
+    EndsAs z (endResult (nextPhase z) (pairedFrom z r (r .securities) 0 m k b)) r v m′ k′ v′ b′

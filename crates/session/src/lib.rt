@@ -7,6 +7,7 @@ use market::Answer;
 use market::Carried;
 use market::Kind;
 use market::LENT_AT_LEAST;
+use market::Listing;
 use market::MAX_CODES;
 use market::MAX_LOTS;
 use market::MAX_WAITING;
@@ -14,7 +15,6 @@ use market::Order;
 use market::OrderBook;
 use market::Phase;
 use market::Rules;
-use market::Security;
 use market::Session;
 use market::Side;
 use market::Turnover;
@@ -112,22 +112,25 @@ fn terms_for(session: Session, book: OrderBook, security: u64) -> Terms
 fn pair_securities(
     session: Session,
     b: OrderBook,
-    securities: u64,
-    table: [Security; 16],
-    money: &mut [u64; 512],
-    pieces: &mut [u64; 512],
+    rules: Rules,
+    money: &mut [u64; 544],
+    pieces: &mut [u64; 544],
     trades: &mut [u64],
 ) -> OrderBook
-    requires { ⌜ Endable session securities table b (now money) (now pieces) (now trades) ⌝ }
-    ensures { λ r. ⌜ PairsAll session securities table b (now (money .entry)) (now (pieces .entry)) (now (trades .entry)) (now (money .exit)) (now (pieces .exit)) (now (trades .exit)) r ⌝ }
+    requires { ⌜ Endable session rules b (now money) (now pieces) (now trades) ⌝ }
+    ensures { λ r. ⌜ PairsAll session rules b (now (money .entry)) (now (pieces .entry)) (now (trades .entry)) (now (money .exit)) (now (pieces .exit)) (now (trades .exit)) r ⌝ }
 {
     let mut book = b;
     book.filled = 0;
     book.left = 0;
     book.trades = 0;
     let mut security: u64 = 0;
-    while security < securities {
-        let row = table[security as usize];
+    while security < rules.securities {
+        let row = rules.table[security as usize];
+        let listing = Listing {
+            row,
+            rate: rules.rate,
+        };
         let terms = terms_for(session, book, security);
         let limit = terms.limit;
         book = pair_all(
@@ -135,7 +138,7 @@ fn pair_securities(
             security,
             limit,
             terms.price,
-            row,
+            listing,
             money,
             pieces,
             trades,
@@ -149,17 +152,16 @@ fn pair_securities(
 fn end_pairing(
     session: Session,
     b: OrderBook,
-    securities: u64,
-    table: [Security; 16],
-    money: &mut [u64; 512],
-    pieces: &mut [u64; 512],
+    rules: Rules,
+    money: &mut [u64; 544],
+    pieces: &mut [u64; 544],
     trades: &mut [u64],
 ) -> OrderBook
-    requires { ⌜ Endable session securities table b (now money) (now pieces) (now trades) ⌝ }
-    ensures { λ r. ⌜ Ends session securities table b (now (money .entry)) (now (pieces .entry)) (now (trades .entry)) (now (money .exit)) (now (pieces .exit)) (now (trades .exit)) r ⌝ }
+    requires { ⌜ Endable session rules b (now money) (now pieces) (now trades) ⌝ }
+    ensures { λ r. ⌜ Ends session rules b (now (money .entry)) (now (pieces .entry)) (now (trades .entry)) (now (money .exit)) (now (pieces .exit)) (now (trades .exit)) r ⌝ }
 {
-    let mut book = pair_securities(session, b, securities, table, money, pieces, trades);
-    free_all(book, table, money, pieces);
+    let mut book = pair_securities(session, b, rules, money, pieces, trades);
+    free_all(book, rules, money, pieces);
     book.count = 0;
     book
 }
@@ -192,16 +194,16 @@ fn early_closing_no(
 
 // The first "no" of questions 11 to 14; 0 where there is none.
 fn later_closing_no<'a>(
-    money: &'a [u64; 512],
-    pieces: &'a [u64; 512],
-    row: Security,
+    money: &'a [u64; 544],
+    pieces: &'a [u64; 544],
+    listing: Listing,
     turnover: Turnover,
     count: usize,
     codes: u64,
     o: Order,
 ) -> u64
-    requires { ⌜ Reckonable row turnover o ⌝ }
-    ensures { λ r. ⌜ r ≡ firstNo (laterClosing row turnover count codes o (now (money .entry)) (now (pieces .entry))) ⌝ }
+    requires { ⌜ Reckonable listing turnover o ⌝ }
+    ensures { λ r. ⌜ r ≡ firstNo (laterClosing listing turnover count codes o (now (money .entry)) (now (pieces .entry))) ⌝ }
 {
     if turnover.pieces == 0 {
         return 11;
@@ -212,7 +214,7 @@ fn later_closing_no<'a>(
     if MAX_CODES <= codes {
         return 13;
     }
-    if !covers(money, pieces, row, turnover, o) {
+    if !covers(money, pieces, listing, turnover, o) {
         return 14;
     }
     0
@@ -240,8 +242,8 @@ pub fn closing_no<'a>(
     turnovers: [Turnover; 16],
     count: usize,
     codes: u64,
-    money: &'a [u64; 512],
-    pieces: &'a [u64; 512],
+    money: &'a [u64; 544],
+    pieces: &'a [u64; 544],
     participant: u64,
     side: Side,
     security: u64,
@@ -265,8 +267,12 @@ pub fn closing_no<'a>(
     let table = rules.table;
     let row = table[listed];
     let turnover = turnovers[listed];
+    let listing = Listing {
+        row,
+        rate: rules.rate,
+    };
     let o = closing_order(codes, participant, side, security, lots);
-    later_closing_no(money, pieces, row, turnover, count, codes, o)
+    later_closing_no(money, pieces, listing, turnover, count, codes, o)
 }
 
 // A session begins, and all waiting orders come off. Before an auction none waits, since no code has been given.
@@ -275,8 +281,8 @@ pub fn start(
     b: OrderBook,
     rules: Rules,
     phase: Phase,
-    money: &mut [u64; 512],
-    pieces: &mut [u64; 512],
+    money: &mut [u64; 544],
+    pieces: &mut [u64; 544],
 ) -> Carried
     requires { ⌜ Ready rules phase (now money) (now pieces) b ⌝ }
     ensures { λ r. ⌜ Carries rules phase (now (money .entry)) (now (pieces .entry)) b [] (startOf session) (now (money .exit)) (now (pieces .exit)) [] r ⌝ }
@@ -287,9 +293,8 @@ pub fn start(
     if !starts_at(session, b.codes) {
         return declined(b, phase, 21);
     }
-    let table = rules.table;
     let mut book = b;
-    free_all(book, table, money, pieces);
+    free_all(book, rules, money, pieces);
     book.count = 0;
     Carried {
         answer: Answer::Done(0, 0, 0, 0),
@@ -307,8 +312,8 @@ pub fn enter_closing_order(
     side: Side,
     security: u64,
     lots: u64,
-    money: &mut [u64; 512],
-    pieces: &mut [u64; 512],
+    money: &mut [u64; 544],
+    pieces: &mut [u64; 544],
 ) -> Carried
     requires { ⌜ Ready rules phase (now money) (now pieces) b ⌝ }
     ensures { λ r. ⌜ Carries rules phase (now (money .entry)) (now (pieces .entry)) b [] (closingOrder participant side security lots) (now (money .exit)) (now (pieces .exit)) [] r ⌝ }
@@ -333,7 +338,11 @@ pub fn enter_closing_order(
     let o = closing_order(b.codes, participant, side, security, lots);
     let table = rules.table;
     let row = table[security as usize];
-    let book = append(b, o, row, money, pieces);
+    let listing = Listing {
+        row,
+        rate: rules.rate,
+    };
+    let book = append(b, o, listing, money, pieces);
     registered(book, phase)
 }
 
@@ -343,8 +352,8 @@ pub fn end(
     b: OrderBook,
     rules: Rules,
     phase: Phase,
-    money: &mut [u64; 512],
-    pieces: &mut [u64; 512],
+    money: &mut [u64; 544],
+    pieces: &mut [u64; 544],
     trades: &mut [u64],
 ) -> Carried
     requires { ⌜ Ready rules phase (now money) (now pieces) b ⌝ }
@@ -356,8 +365,7 @@ pub fn end(
     if !ends_in(session, phase) {
         return declined(b, phase, 6);
     }
-    let table = rules.table;
-    let book = end_pairing(session, b, rules.securities, table, money, pieces, trades);
+    let book = end_pairing(session, b, rules, money, pieces, trades);
     Carried {
         answer: Answer::Done(0, book.filled, 0, book.trades),
         phase: next_phase(session),

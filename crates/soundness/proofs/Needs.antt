@@ -10,40 +10,44 @@ use lib.ListN.{length, getD, set, drop, replicate, length-set}
 use lib.Seq.{getD-set-same, getD-set-other}
 use borrow.Author.Tests.{eqb-false, eqb-true, ne-eqb}
 use Rattle.market.specs.declared.Order.{Order}
-use Rattle.market.specs.declared.Security.{Security}
+use Rattle.market.specs.declared.Listing.{Listing}
 use Rattle.market.specs.declared.Side.{Side}
 use Rattle.market.specs.declared.Side.the-variants.{Buy, Sell}
 use Rattle.market.specs.declared.State.{State}
 use Rattle.market.specs.declared.Turnover.{Turnover}
-use Rattle.market.specs.Limits.{columns, maxLot, maxLots, maxPieces, maxPrice, cells}
+use Rattle.market.specs.Limits.{cells, columns, maxLots, maxPrice, maxSum}
 use Rattle.market.specs.Tests.{_=?_, allBelow, sumOf}
 use Rattle.market.specs.declared.Rules.{Rules}
-use Rattle.market.specs.Day.{Asset, Day, Money, Pieces, columnsOf, currencyOf, ifMoney, row}
+use Rattle.market.specs.Day.{Asset, Day, Money, Pieces, columnsOf, currencyOf, ifMoney}
 use Rattle.market.specs.View.{firstOrders}
-use Rattle.market.specs.Day.{noSecurity, orderAt, cell, position, positions, totalLimit}
+use Rattle.market.specs.Day.{orderAt, cell, position, positions, totalLimit}
 use Rattle.market.specs.View.{view}
 use Rattle.market.specs.Sound.{blockedSound, needsAt, orderSound, totalsSound}
-use Rattle.market.specs.Needs.{blocks, columnOf, limitOf, need, needAt, ofAsset, only, piecesOf, sumFor}
+use Rattle.market.specs.Needs.{blocks, columnOf, limitOf, need, needAt, ofAsset, only, piecesOf, sumFor, withFee}
+use Rattle.market.specs.Parts.{ListingOk, listing}
 use Rattle.market.proofs.Amounts.{only-same}
 use Rattle.market.proofs.Lists.{same-all}
+use Rattle.market.proofs.Needs.{fee-within, sum-small}
 use Rattle.market.proofs.Logic.{and-true, below-all, below-intro, both}
 use Rattle.soundness.specs.Parts.{Checked, HoldsNeeds, assetSound, coveredAt, columnSound, needCell}
 use Rattle.soundness.specs.Parts.{lentDay, needCellFor, waitingSound}
 use Rattle.soundness.proofs.Loops.{same, waiting-at, waiting-end}
 use Rattle.soundness.proofs.Parts.{Reckonable, ordersOf}
 
--- an order needs at most this: 10^6 for each of 10^7 pieces
+-- an order needs at most this: a fee is no larger than its sum
 abbrev pub maxNeed : ℕ
-maxNeed = maxPrice * maxPieces
+maxNeed = maxSum + maxSum
 
-blocks-top : (side : Side) (l : Security) (price lots : ℕ) → l .lot ≤ maxLot → price ≤ maxPrice → lots ≤ maxLots
-    → blocks side l price lots ≤ maxNeed
-unfolding blocks sumFor piecesOf
-blocks-top Buy l price lots a b c = mul-le-mul b (mul-le-mul c a)
-blocks-top Sell l price lots a b c = le-trans (mul-le-mul c a) (lit≤ tt)
+blocks-top : (side : Side) (l : Listing) (price lots : ℕ) → ListingOk l → price ≤ maxPrice → lots ≤ maxLots
+    → blocks side (l .row) (l .rate) price lots ≤ maxNeed
+unfolding blocks withFee piecesOf
+blocks-top Buy l price lots a b c =
+    let sum = sumFor (l .row) price lots in
+    omega (arith, sum-small (l .row) price lots (a .lot) b c, fee-within (l .rate) sum (a .rate))
+blocks-top Sell l price lots a b c = le-trans (mul-le-mul c (a .lot)) (lit≤ tt)
 
 pub need-top : (r : Rules) (t : List Turnover) (o : Order) → Reckonable r t o → need r t o ≤ maxNeed
-need-top r t o f = blocks-top (o .side) (row r (o .security)) (limitOf t o) (o .lots) (f .lot) (f .price) (f .lots)
+need-top r t o f = blocks-top (o .side) (listing r (o .security)) (limitOf t o) (o .lots) (f .listing) (f .price) (f .lots)
 
 -- amounts in one cell
 only-apart : (i j a : ℕ) → (i ≡ j → ⊥) → only i j a ≡ 0
@@ -175,22 +179,21 @@ columns-same x d l h hp hc = same _ _ there back
         (below-intro n _ (λ p i. needed p c i j ∙ below-all w _ (below-all n _ (a .0) p i) c j))
         (below-all w _ (a .1) c j))
 
--- what an order needs is read from its row, and not from how many currencies there are
-column-same : (side : Side) (r q : Rules) (s : ℕ) → row r s ≡ row q s → columnOf side r s ≡ columnOf side q s
-column-same Buy r q s e = ap (λ (l : Security). l .currency) e
+-- what an order needs is read from its listing, and not from how many currencies there are
+column-same : (side : Side) (r q : Rules) (s : ℕ) → listing r s ≡ listing q s → columnOf side r s ≡ columnOf side q s
+column-same Buy r q s e = ap (λ (l : Listing). l .row .currency) e
 column-same Sell r q s e = refl
 
-need-same : (x : Asset) (r q : Rules) (t : List Turnover) (j : ℕ) (o : Order) → r .table ≡ q .table
+need-same : (x : Asset) (r q : Rules) (t : List Turnover) (j : ℕ) (o : Order) → listing r (o .security) ≡ listing q (o .security)
     → needAt x r t j o ≡ needAt x q t j o
 unfolding needAt
 need-same x r q t j o e =
-    let same : row r (o .security) ≡ row q (o .security) = ap (λ (l : List Security). getD l (o .security) noSecurity) e in
-    rw (column-same (o .side) r q (o .security) same, same)
+    rw (column-same (o .side) r q (o .security) e, ap (λ (l : Listing). l .row) e, ap (λ (l : Listing). l .rate) e)
 
-needs-same : (x : Asset) (r q : Rules) (t : List Turnover) (j : ℕ) (w : List Order) → r .table ≡ q .table
+needs-same : (x : Asset) (r q : Rules) (t : List Turnover) (j : ℕ) (w : List Order) → ((s : ℕ) → listing r s ≡ listing q s)
     → sumOf (needAt x r t j) w ≡ sumOf (needAt x q t j) w
 needs-same x r q t j [] e = refl
-needs-same x r q t j (o ∷ w) e = rw (need-same x r q t j o e, needs-same x r q t j w e)
+needs-same x r q t j (o ∷ w) e = rw (need-same x r q t j o (e (o .security)), needs-same x r q t j w e)
 
 -- what was asked of the orders is known of the day, whatever its positions
 pub orders-checked : (s : State) (money pieces : List ℕ) (answer : Bool) (needs : List ℕ)
@@ -199,5 +202,5 @@ unfolding waitingSound orderSound
 orders-checked s money pieces answer needs k = record {
   right = k .right;
   added = λ e x j h. k .added e x j h
-      ∙ needs-same x ((ordersOf s) .rules) ((view s) .rules) (s .turnover) j ((view s) .waiting) refl;
+      ∙ needs-same x ((ordersOf s) .rules) ((view s) .rules) (s .turnover) j ((view s) .waiting) (λ i. refl);
 }

@@ -10,18 +10,19 @@ use Rattle.market.specs.declared.Order.{Order}
 use Rattle.market.specs.declared.Security.{Security}
 use Rattle.market.specs.declared.State.{State}
 use Rattle.market.specs.declared.Turnover.{Turnover}
-use Rattle.market.specs.Limits.{columns, maxCurrencies, maxLot, maxLots, maxParticipants, maxPrice, maxSecurities}
-use Rattle.market.specs.Limits.{maxStep, maxWaiting}
+use Rattle.market.specs.Limits.{columns, maxCurrencies, maxLots, maxParticipants, maxPrice, maxSecurities}
+use Rattle.market.specs.Limits.{maxWaiting}
 use Rattle.market.specs.Tests.{_and_, allOf, known}
 use Rattle.market.specs.declared.Rules.{Rules}
 use Rattle.market.specs.Day.{Day, Money, Pieces, currencyOf, row, turnoverAt}
 use Rattle.market.specs.View.{view}
+use Rattle.market.specs.Parts.{ListingOk, listing}
 use Rattle.market.specs.Codes.{given, numbered, rising}
 use Rattle.market.specs.Needs.{limitOf}
 use Rattle.market.specs.Sound.{countsSound, kindSound, rowSound, lotsSound, orderSound, rulesSound}
 use Rattle.market.specs.Sound.{sound, turnoverSound}
 use Rattle.market.proofs.Logic.{and-true, below-all, below-intro, both, never, within-high, within-low}
-use Rattle.market.proofs.Known.{RulesOk, rules-ok}
+use Rattle.market.proofs.Known.{RulesOk, listing-ok, rules-ok}
 use Rattle.market.proofs.Turnovers.{limit-bound, turnover-ok}
 use Rattle.soundness.specs.Parts.{Checked, HoldsNeeds, assetSound, lentDay, orderly, ordersDay, waitingSound}
 use Rattle.soundness.proofs.Loops.{and-none, same}
@@ -38,11 +39,12 @@ orderly-holds d e =
     let a = and-true e in
     let counts = and-true (a .1) in
     let table = and-true (counts .1) in
-    let codes = and-true (table .1) in
+    let rate = and-true (table .1) in
+    let codes = and-true (rate .1) in
     record {
       count = leb-true (length (d .waiting)) maxWaiting (a .0);
       participants = within-low 1 maxParticipants (d .rules .participants) ((and-true (counts .0)) .0);
-      rules = rules-ok (d .rules) (both (counts .0) (table .0));
+      rules = rules-ok (d .rules) (both (counts .0) (both (table .0) (rate .0)));
       turnovers = below-all (d .rules .securities) (λ s. turnoverSound (given d) (turnoverAt (d .turnover) s))
           (codes .1);
     }
@@ -62,6 +64,7 @@ parts d = same _ _ there back
     there e =
         let rules = and-true e in
         let r = and-true (rules .0) in
+        let lines = and-true (r .1) in
         let codes = and-true (rules .1) in
         let n = and-true (codes .0) in
         let count = and-true (codes .1) in
@@ -70,7 +73,7 @@ parts d = same _ _ there back
         let pieces = and-true (money .1) in
         let t = and-true (pieces .1) in
         let u = and-true (t .1) in
-        both (both (count .0) (both (r .0) (both (r .1) (both (n .0) (u .1)))))
+        both (both (count .0) (both (r .0) (both (lines .0) (both (lines .1) (both (n .0) (u .1))))))
         (both (both (orders .0) (n .1)) (both (both (money .0) (t .0)) (both (pieces .0) (u .0))))
 
     back : orderly d and waitingSound d and assetSound Money d and assetSound Pieces d ≡ true → sound d ≡ true
@@ -79,13 +82,14 @@ parts d = same _ _ there back
         let count = and-true (all .0) in
         let counts = and-true (count .1) in
         let table = and-true (counts .1) in
-        let codes = and-true (table .1) in
+        let rate = and-true (table .1) in
+        let codes = and-true (rate .1) in
         let rest = and-true (all .1) in
         let orders = and-true (rest .0) in
         let assets = and-true (rest .1) in
         let money = and-true (assets .0) in
         let pieces = and-true (assets .1) in
-        both (both (counts .0) (table .0)) (both (both (codes .0) (orders .1)) (both (count .0) (both (orders .0)
+        both (both (counts .0) (both (table .0) (rate .0))) (both (both (codes .0) (orders .1)) (both (count .0) (both (orders .0)
         (both (money .0) (both (pieces .0) (both (money .1) (both (pieces .1) (codes .1))))))))
 
 -- the test of the waiting orders, where one of its two parts fails and where none does
@@ -113,7 +117,8 @@ row-wide currencies l h e =
 
 abbrev pub ordersOf : State → Day
 ordersOf s =
-    ordersDay (s .participants) (s .securities) (s .codes) (s .phase) (s .count) (s .table) (s .turnover) (s .orders)
+    ordersDay (s .participants) (s .securities) (s .codes) (s .rate) (s .phase) (s .count) (s .table) (s .turnover)
+    (s .orders)
 
 pub orders-orderly : (s : State) → orderly (view s) ≡ true → orderly (ordersOf s) ≡ true
 unfolding orderly countsSound
@@ -139,20 +144,13 @@ pub known-security : (d : Day) (o : Order) → o .security < d .rules .securitie
 unfolding orderSound _and_
 known-security d o h = rw (lt-ltb _ _ h)
 
--- a price step above 0, by which a price can be divided
-pub row-step : (r : Rules) (s : ℕ) → rulesSound r ≡ true → s < r .securities → 0 < (row r s) .step
-unfolding rulesSound rowSound
-row-step r s e h =
-    let a = below-all (r .securities) (λ s. rowSound (r .currencies) (row r s)) ((and-true e) .1) s h in
-    within-low 1 maxStep ((row r s) .step) ((and-true ((and-true a) .1)) .1)
-
 -- a waiting order whose need can be reckoned
 pub record Reckonable (r : Rules) (t : List Turnover) (o : Order) : Type 0 where
   pub participant : o .participant < columns
   pub security : o .security < maxSecurities
   pub currency : currencyOf r (o .security) < columns
   pub lots : o .lots ≤ maxLots
-  pub lot : (row r (o .security)) .lot ≤ maxLot
+  pub listing : ListingOk (listing r (o .security))
   pub price : limitOf t o ≤ maxPrice
 
 pub reckonable : (d : Day) (o : Order) → Orderly d → orderSound d o ≡ true → Reckonable (d .rules) (d .turnover) o
@@ -170,7 +168,7 @@ reckonable d o y e =
       security = omega (arith, y .rules .securities);
       currency = omega (arith, y .rules .currencies);
       lots = within-high 1 maxLots (o .lots) (c .0);
-      lot = y .rules .lot s security;
+      listing = listing-ok (d .rules) s (y .rules) security;
       price = limit-bound (d .phase) (row (d .rules) s) (turnoverAt (d .turnover) s) (o .kind)
           (turnover-ok (given d) (turnoverAt (d .turnover) s) (y .turnovers s security)) (c .1);
     }

@@ -19,18 +19,19 @@ use Rattle.market.specs.Day.{withMoney, withPieces}
 use Rattle.market.specs.View.{view}
 use Rattle.market.specs.Codes.{codesSound, given, rising}
 use Rattle.market.specs.Positions.{totalAt}
-use Rattle.market.specs.Sound.{blockedSound, countsSound, rowSound, needsAt, orderSound, totalsSound, turnoverSound}
+use Rattle.market.specs.Sound.{blockedSound, countsSound, needsAt, orderSound, rateSound, rowSound, totalsSound, turnoverSound}
 
 -- the day of a state with these positions in place of its own
 abbrev pub lentDay : State → List ℕ → List ℕ → Day
 lentDay s money pieces = withPieces (withMoney (view s) money) pieces
 
--- counts, table, codes, Q and T: each part is asked where the ones before it hold
+-- counts, table, rate, codes, Q and T: each part is asked where the ones before it hold
 unfoldable pub orderly : Day → Bool
 orderly d =
     length (d .waiting) ≤? maxWaiting
     and countsSound (d .rules .participants) (d .rules .currencies) (d .rules .securities)
     and allBelow (d .rules .securities) (λ s. rowSound (d .rules .currencies) (row (d .rules) s))
+    and rateSound (d .rules .rate)
     and codesSound d
     and allBelow (d .rules .securities) (λ s. turnoverSound (given d) (turnoverAt (d .turnover) s))
 
@@ -51,7 +52,7 @@ unfoldable pub columnSound : ℕ → ℕ → ℕ → List ℕ → List ℕ → �
 columnSound participants limit first l needs c =
     allBelow participants (λ p. coveredAt first l needs (cell p c)) and totalAt participants l c ≤? limit
 
--- needs stand in one list: money at its cell, pieces 256 cells further on
+-- needs stand in one list: money at its cell, pieces as many cells further on as there are
 abbrev pub needCell : Asset → ℕ → ℕ
 needCell x j = ifMoney x 0 cells + j
 
@@ -65,13 +66,14 @@ abbrev pub HoldsNeeds : Day → List ℕ → Type 0
 HoldsNeeds d l = (x : Asset) (j : ℕ) → j < cells → getD l (needCell x j) 0 ≡ needsAt x d j
 
 -- the day as far as its orders are asked about: neither its positions count, nor how many of the currencies it has
-abbrev pub ordersDay : ℕ → ℕ → ℕ → Phase → ℕ → List Security → List Turnover → List Order → Day
-ordersDay participants securities codes phase count table turnover orders = record {
+abbrev pub ordersDay : ℕ → ℕ → ℕ → ℕ → Phase → ℕ → List Security → List Turnover → List Order → Day
+ordersDay participants securities codes rate phase count table turnover orders = record {
   rules = record {
     participants = participants;
     currencies = maxCurrencies;
     securities = securities;
     table = table;
+    rate = rate;
   };
   money = [];
   pieces = [];

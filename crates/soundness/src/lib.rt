@@ -1,9 +1,11 @@
 // Is a state sound? Asked of any values at all, before anything is reckoned from them.
+use amounts::account_cell;
 use amounts::cell_of;
 use amounts::need_of;
 use amounts::price_sound;
 use amounts::within;
 use market::Kind;
+use market::Listing;
 use market::MAX_CODES;
 use market::MAX_CURRENCIES;
 use market::MAX_LOT;
@@ -11,6 +13,7 @@ use market::MAX_LOTS;
 use market::MAX_PARTICIPANTS;
 use market::MAX_PIECES;
 use market::MAX_PRICE;
+use market::MAX_RATE;
 use market::MAX_SECURITIES;
 use market::MAX_STEP;
 use market::MAX_WAITING;
@@ -36,7 +39,7 @@ ghost use Rattle.market.specs.Sound.{countsSound, kindSound, rowSound, lotsSoun
 ghost use Rattle.soundness.specs.Parts.{Checked, columnSound, lentDay, needCellFor, orderly, ordersDay};
 
 // Needs of pieces stand this many cells behind those of money.
-const CELLS: usize = 256;
+const CELLS: usize = 272;
 
 pub fn counts_sound(participants: u64, currencies: u64, securities: u64) -> bool
     ensures { λ r. ⌜ r ≡ countsSound participants currencies securities ⌝ }
@@ -167,15 +170,16 @@ fn orders_sound(
     participants: u64,
     securities: u64,
     codes: u64,
+    rate: u64,
     phase: Phase,
     count: usize,
     table: [Security; 16],
     turnovers: [Turnover; 16],
     orders: [Order; 128],
-    needs: &mut [u64; 512],
+    needs: &mut [u64; 544],
 ) -> bool
-    requires { ⌜ (orderly (ordersDay participants securities codes phase count table turnovers orders) ≡ true) × (now needs ≡ replicate (cells + cells) 0) ⌝ }
-    ensures { λ r. ⌜ Checked (ordersDay participants securities codes phase count table turnovers orders) r (now (needs .exit)) ⌝ }
+    requires { ⌜ (orderly (ordersDay participants securities codes rate phase count table turnovers orders) ≡ true) × (now needs ≡ replicate (cells + cells) 0) ⌝ }
+    ensures { λ r. ⌜ Checked (ordersDay participants securities codes rate phase count table turnovers orders) r (now (needs .exit)) ⌝ }
 {
     let mut last: u64 = 0;
     let mut i: usize = 0;
@@ -195,22 +199,23 @@ fn orders_sound(
         }
         let side = order.side;
         let at = need_cell(side, order.participant, row.currency, order.security);
-        needs[at] = needs[at] + need_of(row, turnover, order);
+        let listing = Listing { row, rate };
+        needs[at] = needs[at] + need_of(listing, turnover, order);
         last = order.code;
         i += 1;
     }
     last <= codes
 }
 
-// Is what is blocked in each column what is needed, and the column's total within the limit? No sum is made above it.
-// Column by column in one loop.
+// Is what is blocked in each column what is needed, and the column's total, with the market's account, within the limit?
+// No sum is made above it. Column by column in one loop.
 fn positions_sound<'a>(
     participants: u64,
     columns: u64,
     limit: u64,
     first: usize,
-    positions: &'a [u64; 512],
-    needs: &'a [u64; 512],
+    positions: &'a [u64; 544],
+    needs: &'a [u64; 544],
 ) -> bool
     requires { ⌜ (0 < participants) × (participants ≤ maxParticipants) × (columns ≤ allColumns) × (first ≤ cells) ⌝ }
     ensures { λ r. ⌜ r ≡ allBelow columns (columnSound participants limit first (now (positions .entry)) (now (needs .entry))) ⌝ }
@@ -236,6 +241,9 @@ fn positions_sound<'a>(
         if p < participants {
             continue;
         }
+        if limit - total < positions[2 * account_cell(column)] {
+            return false;
+        }
         p = 0;
         total = 0;
         column += 1;
@@ -259,6 +267,9 @@ fn is_orderly(s: State) -> bool
     if !table_sound(s.currencies, s.securities, table) {
         return false;
     }
+    if MAX_RATE < s.rate {
+        return false;
+    }
     if MAX_CODES < s.codes {
         return false;
     }
@@ -267,14 +278,14 @@ fn is_orderly(s: State) -> bool
 
 // Is the state sound with these positions in place of its own? A call that works on a copy of the positions lends it, and
 // the state, of which neither a part is lent nor an element read here, is not copied.
-pub fn lent_sound<'a>(s: State, money: &'a [u64; 512], pieces: &'a [u64; 512]) -> bool
+pub fn lent_sound<'a>(s: State, money: &'a [u64; 544], pieces: &'a [u64; 544]) -> bool
     ensures { λ r. ⌜ r ≡ sound (lentDay s (now (money .entry)) (now (pieces .entry))) ⌝ }
 {
     let phase = s.phase;
     let table = s.table;
     let turnovers = s.turnover;
     let orders = s.orders;
-    let mut needs = [0u64; 512];
+    let mut needs = [0u64; 544];
     if !is_orderly(s) {
         return false;
     }
@@ -282,6 +293,7 @@ pub fn lent_sound<'a>(s: State, money: &'a [u64; 512], pieces: &'a [u64; 512]) -
         s.participants,
         s.securities,
         s.codes,
+        s.rate,
         phase,
         s.count,
         table,

@@ -80,7 +80,7 @@ fn position(label: &[u8], free: u64, blocked: u64) {
 
 // Free and blocked money at participant * 16 + currency.
 fn money(label: &[u8], s: State, place: usize) {
-    if place < 256 {
+    if place < 272 {
         position(label, s.money[2 * place], s.money[2 * place + 1]);
     }
 }
@@ -119,14 +119,14 @@ fn table() -> [Security; 16] {
 }
 
 fn day() -> State {
-    let o = opening(2, 2, 2, table());
+    let o = opening(2, 2, 2, table(), 0);
     o.state
 }
 
 // The state with this money at participant * 16 + currency.
 fn with_money(s: State, place: usize, free: u64, blocked: u64) -> State {
     let mut t = s;
-    if place < 256 {
+    if place < 272 {
         t.money[2 * place] = free;
         t.money[2 * place + 1] = blocked;
     }
@@ -136,7 +136,7 @@ fn with_money(s: State, place: usize, free: u64, blocked: u64) -> State {
 // The state with these pieces at participant * 16 + security.
 fn with_pieces(s: State, place: usize, free: u64, blocked: u64) -> State {
     let mut t = s;
-    if place < 256 {
+    if place < 272 {
         t.pieces[2 * place] = free;
         t.pieces[2 * place + 1] = blocked;
     }
@@ -157,12 +157,12 @@ fn line_past_the_count() {
     };
     after(
         b"a wrong line past the count is not read",
-        opening(1, 1, 1, lines),
+        opening(1, 1, 1, lines, 0),
     );
 }
 
 fn refused_opening_is_unsound() {
-    let s = after(b"refused opening: 17", opening(0, 0, 0, table()));
+    let s = after(b"refused opening: 17", opening(0, 0, 0, table(), 0));
     after(b"its state: 1", increase_money(s, 0, 0, 1));
 }
 
@@ -353,6 +353,45 @@ fn unsound_money() {
         18446744073709551615,
         18446744073709551615,
     );
+}
+
+fn asked_rate(label: &[u8], rate: u64) {
+    let mut s = day();
+    s.rate = rate;
+    asked(label, s);
+}
+
+fn rates() {
+    asked_rate(b"rate 1000, sound", 1000);
+    asked_rate(b"rate 1001: 1", 1001);
+    asked_rate(b"the largest rate: 1", 18446744073709551615);
+}
+
+// The market's account stands at 256 + currency, behind the positions of 16 participants.
+fn accounts() {
+    let s = with_money(day(), 257, 5, 0);
+    asked(
+        b"a total at its limit with the account, sound",
+        with_money(s, 17, 999999999999995, 0),
+    );
+    asked(b"a unit above it: 1", with_money(s, 17, 999999999999996, 0));
+    asked_money(b"the largest account: 1", 257, 18446744073709551615, 0);
+    asked_money(b"blocked behind the account, not read", 257, 0, 7);
+    asked_money(
+        b"an unknown currency's account, not read",
+        258,
+        18446744073709551615,
+        7,
+    );
+}
+
+fn increases_beside_an_account() {
+    let s = with_money(day(), 256, 999999999999999, 0);
+    after(
+        b"an increase by all that is left",
+        increase_money(s, 0, 0, 1),
+    );
+    after(b"and by one more: 9", increase_money(s, 0, 0, 2));
 }
 
 // A day with anything past its counts.
@@ -727,6 +766,9 @@ fn states() {
     lists();
     blocked_pieces();
     unsound_money();
+    rates();
+    accounts();
+    increases_beside_an_account();
 }
 
 fn left_as_it_was() {

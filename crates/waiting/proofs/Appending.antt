@@ -9,7 +9,7 @@ use Rattle.market.specs.declared.Order.{Order}
 use Rattle.market.specs.declared.OrderBook.{OrderBook}
 use Rattle.market.specs.declared.Phase.{Phase}
 use Rattle.market.specs.declared.Rules.{Rules}
-use Rattle.market.specs.declared.Security.{Security}
+use Rattle.market.specs.declared.Listing.{Listing}
 use Rattle.market.specs.Limits.{maxSecurities, maxWaiting}
 use Rattle.market.specs.Day.{Day, turnoverAt, withCodes, withWaiting}
 use Rattle.market.specs.View.{dayOf}
@@ -22,7 +22,7 @@ use Rattle.waiting.specs.Appending.{Admits, AppendedAs}
 use Rattle.waiting.specs.Claims.{Blockable, moneyWith, piecesWith}
 use Rattle.waiting.proofs.Days.{blocks, day-moved}
 
-module _ {r : Rules} {x : Phase} {l : Security} {b : OrderBook} {o : Order} {m k : List ℕ} (a : Admits r x l b o m k) where
+module _ {r : Rules} {x : Phase} {l : Listing} {b : OrderBook} {o : Order} {m k : List ℕ} (a : Admits r x l b o m k) where
   abbrev d : Day
   d = dayOf r x m k b
 
@@ -40,7 +40,7 @@ module _ {r : Rules} {x : Phase} {l : Security} {b : OrderBook} {o : Order} {m k
   pub append-blocks : Blockable l (turnoverAt (b .turnover) (o .security)) o m k
   append-blocks =
       let p = a .placeable in
-      blocks d l o (a .row) [] (a .standing .backed) (p .order .participant) (p .order .security)
+      blocks d l o (a .listing) [] (a .standing .backed) (p .order .participant) (p .order .security)
       (limit-fits d (a .standing) o (p .order) (p .kind)) (p .order .top) (p .covers)
 
   pub append-done : {m′ k′ : List ℕ} → b .count < length (b .orders)
@@ -64,5 +64,5 @@ module _ {r : Rules} {x : Phase} {l : Security} {b : OrderBook} {o : Order} {m k
         (first-append (b .count) (b .orders) o inside)
         ∙ ap (λ (c : ℕ). withWaiting (withCodes (dayOf r x m′ k′ b) c) (waitingIn b ++ (o ∷ []))) (a .placeable .code)
         ∙ ap (λ (e : Day). withWaiting e (waitingIn b ++ (o ∷ [])))
-        (day-moved (withCodes d (b .codes + 1)) l o (a .row) block m′ k′ em ek);
+        (day-moved (withCodes d (b .codes + 1)) l o (a .listing) block m′ k′ em ek);
   }

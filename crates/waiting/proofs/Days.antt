@@ -6,17 +6,19 @@ use mathlib.Core.List.{List, _++_}
 use mathlib.Core.Bool.{true}
 use borrow.Author.Tests.{leb-true}
 use Rattle.market.specs.declared.Order.{Order}
-use Rattle.market.specs.declared.Security.{Security}
+use Rattle.market.specs.declared.Listing.{Listing}
 use Rattle.market.specs.declared.Side.{Side}
 use Rattle.market.specs.declared.Side.the-variants.{Buy, Sell}
 use Rattle.market.specs.declared.Turnover.{Turnover}
 use Rattle.market.specs.Limits.{maxLots, maxPrice, moneyLimit}
 use Rattle.market.specs.Tests.{_≤?_}
-use Rattle.market.specs.Day.{Asset, Day, Money, Pieces, Position, ifMoney, row, cell, position, positions, totalLimit}
+use Rattle.market.specs.Day.{Asset, Day, Money, Pieces, Position, ifMoney, cell, position, positions, totalLimit}
 use Rattle.market.specs.Day.{turnoverAt, withMoney, withPieces, withPositions}
 use Rattle.market.specs.Needs.{assetOf, columnOf, limitOf, need, needAt, cellFor}
 use Rattle.market.specs.Positions.{change, onNeed, total}
 use Rattle.market.specs.Questions.{covered}
+use Rattle.market.specs.Parts.{listing}
+use Rattle.market.proofs.Known.{listing-ok}
 use Rattle.invariant.specs.Standing.{Backed, needsOf}
 use Rattle.invariant.proofs.Held.{held-within}
 use Rattle.invariant.proofs.Backed.{column-known, need-blocked}
@@ -24,8 +26,8 @@ use Rattle.matching.specs.Execution.{needWith}
 use Rattle.waiting.specs.Claims.{Blockable, Freeable, Reckonable, columnBy, coveredBy, moneyWith, piecesWith}
 use Rattle.waiting.specs.Claims.{cellBy, positionBy}
 
--- an order o, whose security's row is l
-module _ (d : Day) (l : Security) (o : Order) (own : row (d .rules) (o .security) ≡ l) where
+-- an order o, whose security's listing is l
+module _ (d : Day) (l : Listing) (o : Order) (own : listing (d .rules) (o .security) ≡ l) where
   abbrev t : Turnover
   t = turnoverAt (d .turnover) (o .security)
 
@@ -33,12 +35,12 @@ module _ (d : Day) (l : Security) (o : Order) (own : row (d .rules) (o .security
   there = position (positions (assetOf (o .side)) d) (cellFor (d .rules) o)
 
   need-is : needWith l t o ≡ need (d .rules) (d .turnover) o
-  need-is = ap (λ (x : Security). needWith x t o) (sym own)
+  need-is = ap (λ (x : Listing). needWith x t o) (sym own)
 
   cell-is : cellBy l o ≡ cellFor (d .rules) o
-  cell-is = ap (λ (x : Security). cellBy x o) (sym own) ∙ ap (cell (o .participant)) (column (o .side))
+  cell-is = ap (λ (x : Listing). cellBy x o) (sym own) ∙ ap (cell (o .participant)) (column (o .side))
     where
-      column : (x : Side) → columnBy x (row (d .rules) (o .security)) (o .security) ≡ columnOf x (d .rules) (o .security)
+      column : (x : Side) → columnBy x (listing (d .rules) (o .security)) (o .security) ≡ columnOf x (d .rules) (o .security)
       column Buy = refl
       column Sell = refl
 
@@ -74,7 +76,7 @@ module _ (d : Day) (l : Security) (o : Order) (own : row (d .rules) (o .security
           participant = omega (arith, ok .participants);
           security = omega (arith, ok .securities);
           currency = omega (arith, ok .currency (o .security) hs, ok .currencies);
-          lot = ok .lot (o .security) hs;
+          listing = listing-ok (d .rules) (o .security) ok hs;
           limit = limit;
           top = top;
         })

@@ -7,7 +7,7 @@ use lib.ListN.{length}
 use Rattle.market.specs.declared.Order.{Order}
 use Rattle.market.specs.declared.OrderBook.{OrderBook}
 use Rattle.market.specs.declared.Phase.{Phase}
-use Rattle.market.specs.declared.Security.{Security}
+use Rattle.market.specs.declared.Listing.{Listing}
 use Rattle.market.specs.declared.Turnover.{Turnover}
 use Rattle.market.specs.Limits.{maxSecurities, maxWaiting}
 use Rattle.market.specs.Tests.{removeAt}
@@ -28,7 +28,7 @@ use Rattle.waiting.specs.Claims.{Freeable, moneyWith, piecesWith}
 use Rattle.waiting.specs.Leaving.{Holds}
 use Rattle.waiting.proofs.Days.{day-moved, frees}
 
-module _ {r : Rules} {x : Phase} {l : Security} {b : OrderBook} {i : ℕ} {m k : List ℕ} (h : Holds r x l b i m k) where
+module _ {r : Rules} {x : Phase} {l : Listing} {b : OrderBook} {i : ℕ} {m k : List ℕ} (h : Holds r x l b i m k) where
   abbrev d : Day
   d = dayOf r x m k b
 
@@ -58,7 +58,7 @@ module _ {r : Rules} {x : Phase} {l : Security} {b : OrderBook} {i : ℕ} {m k :
 
   pub leaver-frees : Freeable l t o m k
   leaver-frees =
-      frees d l o (h .row) [] (h .standing .backed) (ok .participant) (ok .security)
+      frees d l o (h .listing) [] (h .standing .backed) (ok .participant) (ok .security)
       (limit-fits d (h .standing) o ok kind-ok) (ok .top)
       (λ y j.
       subst (λ (z : Order). needAt y r (b .turnover) j z ≤ needsOf y d (d .waiting) j) there
@@ -78,5 +78,5 @@ module _ {r : Rules} {x : Phase} {l : Security} {b : OrderBook} {i : ℕ} {m k :
       ∙ moved-ends moved (omega (arith, h .waits)) last
       ∙ ap (λ (c : ℕ). removeAt (firstOrders c (b .orders)) i) all in
       rw (waiting, codes, turnover)
-      (ap (λ (z : Day). withWaiting z (removeAt (d .waiting) i)) (day-moved d l o (h .row) release m1 k1 em ek)
+      (ap (λ (z : Day). withWaiting z (removeAt (d .waiting) i)) (day-moved d l o (h .listing) release m1 k1 em ek)
       ∙ ap (λ (z : Order). withWaiting (releaseFor d z) (removeAt (d .waiting) i)) (sym there))

@@ -7,6 +7,9 @@ use crate::calls::{
 };
 use crate::engine::{Engine, Position, Traded};
 
+/// The sum on which a fee is the rate itself.
+const FULL_SUM: i128 = 100_000;
+
 /// What a check found wrong, in words.
 pub type Checked = Result<(), String>;
 
@@ -15,8 +18,10 @@ pub struct Book {
     participants: usize,
     currencies: usize,
     securities: Vec<SecurityLine>,
+    rate: i128,
     money: Vec<Vec<i128>>,
     pieces: Vec<Vec<i128>>,
+    market: Vec<i128>,
     traded: Vec<BookedTrades>,
     phase: Phase,
     waiting: Vec<WaitingOrder>,
@@ -55,8 +60,10 @@ impl Book {
             participants,
             currencies,
             securities: opening.securities.clone(),
+            rate: i128::from(opening.rate),
             money: vec![vec![0; currencies]; participants],
             pieces: vec![vec![0; securities]; participants],
+            market: vec![0; currencies],
             traded: vec![BookedTrades::default(); securities],
             phase: Phase::Open,
             waiting: Vec::new(),
@@ -143,8 +150,10 @@ impl Book {
         expect(sum == i128::from(trade.price) * pieces, || {
             format!("the sum of {trade:?} is not price × pieces")
         })?;
-        self.money[buyer][currency] -= sum;
-        self.money[seller][currency] += sum;
+        let fee = self.fee(sum);
+        self.money[buyer][currency] -= sum + fee;
+        self.money[seller][currency] += sum - fee;
+        self.market[currency] += fee + fee;
         self.pieces[seller][security] -= pieces;
         self.pieces[buyer][security] += pieces;
         if self.phase == Phase::Open {
@@ -246,6 +255,9 @@ impl Book {
         for security in 0..self.securities.len() {
             self.compare_traded(security, engine.traded(security))?;
         }
+        for currency in 0..self.currencies {
+            self.compare_market(currency, engine.account(currency))?;
+        }
         self.compare_positions(engine)
     }
 
@@ -294,6 +306,13 @@ impl Book {
             book.pieces == i128::from(state.pieces) && book.turnover == i128::from(state.turnover);
         expect(same, || {
             format!("Q and T of {security}: book {book:?}, state {state:?}")
+        })
+    }
+
+    pub fn compare_market(&self, currency: usize, state: u64) -> Checked {
+        let book = self.market[currency];
+        expect(book == i128::from(state), || {
+            format!("the market's account of {currency}: book {book}, state {state}")
         })
     }
 
@@ -353,8 +372,9 @@ impl Book {
                 WaitingKind::Closing => self.closing_price(order.security),
             };
             let currency = line.currency as usize;
+            let sum = price * pieces;
             match order.side {
-                Side::Buy => needs.money[order.participant][currency] += price * pieces,
+                Side::Buy => needs.money[order.participant][currency] += sum + self.fee(sum),
                 Side::Sell => needs.pieces[order.participant][order.security] += pieces,
             }
         }
@@ -363,6 +383,12 @@ impl Book {
 }
 
 impl Book {
+    /// The rate for each full 100,000 of the sum, and its part for the rest,
+    /// rounded down.
+    fn fee(&self, sum: i128) -> i128 {
+        sum / FULL_SUM * self.rate + sum % FULL_SUM * self.rate / FULL_SUM
+    }
+
     /// T / Q and a half, rounded down; 0 where nothing traded.
     fn closing_price(&self, security: usize) -> i128 {
         let traded = self.traded[security];

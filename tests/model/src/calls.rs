@@ -23,6 +23,7 @@ pub mod refusal {
     pub const MALFORMED: u64 = 19;
     pub const TEXT_TOO_LONG: u64 = 20;
     pub const CODE_GIVEN: u64 = 21;
+    pub const RATE: u64 = 22;
 }
 
 #[derive(Clone, Copy, PartialEq, Eq, Debug)]
@@ -75,6 +76,8 @@ pub struct Opening {
     pub participants: u64,
     pub currencies: u64,
     pub securities: Vec<SecurityLine>,
+    /// Of the tariff, in hundred-thousandths of a trade's sum.
+    pub rate: u64,
 }
 
 #[derive(Clone, Copy, PartialEq, Eq, Debug)]

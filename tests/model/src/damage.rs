@@ -124,8 +124,35 @@ const KEPT_LINES: [&str; 6] = [
     "L,1,0,105,1,K",
 ];
 
-/// Headings in the forms of later levels.
-const LATER_HEADINGS: [&str; 6] = [
+/// A heading's rate in range and out of it, in good form and in bad, and with
+/// more fields than there are.
+const RATES: [&str; 22] = [
+    "0",
+    "1",
+    "999",
+    "1000",
+    "1000",
+    "1001",
+    "1001",
+    "1002",
+    "9999999999999999",
+    "10000000000000000",
+    "00000000000000001",
+    "",
+    "00",
+    "01000",
+    "+1",
+    "-1",
+    "1e3",
+    "K",
+    " 1",
+    "1000\r",
+    "1000,",
+    "1000,0",
+];
+
+/// Headings in the longer forms of this level and of later ones.
+const LONGER_HEADINGS: [&str; 6] = [
     "H,1,1,1,0\nS,0,10,5",
     "H,1,1,1,1000\nS,0,10,5",
     "H,1,1,1,1000,59\nS,0,10,5",
@@ -191,6 +218,22 @@ pub fn with_script_lines(random: &mut Random, text: Vec<u8>) -> Vec<u8> {
         let place = script_line_place(random, &lines);
         let inserted = random.pick(&SCRIPT_LINES);
         lines.insert(place, inserted.into());
+    }
+    lines.join(&b'\n')
+}
+
+/// Another rate in the heading, or none; at times a wrong count or line too.
+pub fn with_rate(random: &mut Random, text: Vec<u8>) -> Vec<u8> {
+    let mut lines = lines_of(&text);
+    let mut fields: Vec<&[u8]> = lines[0].split(|&byte| byte == b',').take(4).collect();
+    if random.chance(90) {
+        fields.push(random.pick(&RATES).as_bytes());
+    }
+    lines[0] = fields.join(&b',');
+    match random.below(4) {
+        0..=1 => wrong_security(random, &mut lines),
+        2 => change_heading_count(random, &mut lines),
+        _ => {}
     }
     lines.join(&b'\n')
 }
@@ -415,19 +458,35 @@ pub fn oddity(random: &mut Random) -> Vec<u8> {
 
 /// A script that never was good.
 pub fn script_oddity(random: &mut Random) -> Vec<u8> {
-    match random.below(12) {
+    match random.below(16) {
         0 => headed(random, b"SHOW\n"),
         1 => headed(random, b"LENT,0\n"),
-        2..=3 => later_heading(random),
+        2..=3 => longer_heading(random),
         4 => odd_heading(random),
         5..=6 => many_securities(random),
+        7..=10 => rated_heading(random),
         _ => random_script_lines(random),
     }
 }
 
-fn later_heading(random: &mut Random) -> Vec<u8> {
+fn longer_heading(random: &mut Random) -> Vec<u8> {
     let mut text = Vec::new();
-    line(&mut text, random.pick(&LATER_HEADINGS));
+    line(&mut text, random.pick(&LONGER_HEADINGS));
+    line(&mut text, "SHOW");
+    text
+}
+
+/// Count, rate and line are each at times wrong, which shows what is asked
+/// first.
+fn rated_heading(random: &mut Random) -> Vec<u8> {
+    let participants = random.pick(&["1", "16", "17"]);
+    let any_rate = random.pick(&RATES);
+    let rate = random.pick(&["1001", any_rate]);
+    let wrong = random.pick(&WRONG_SECURITIES);
+    let security = random.pick(&["S,0,10,5", wrong]);
+    let mut text = Vec::new();
+    line(&mut text, &format!("H,{participants},1,1,{rate}"));
+    line(&mut text, security);
     line(&mut text, "SHOW");
     text
 }

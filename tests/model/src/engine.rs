@@ -24,6 +24,7 @@ pub const PRICE_LIMIT: u64 = 1_000_000;
 pub const LOTS_LIMIT: u64 = 10_000;
 pub const MONEY_LIMIT: u64 = 1_000_000_000_000_000;
 pub const PIECES_LIMIT: u64 = 1_000_000_000_000;
+pub const RATE_LIMIT: u64 = 1_000;
 pub const WAITING_LIMIT: usize = 128;
 pub const CODE_LIMIT: u64 = 1_000_000;
 pub const GROUP_SIZES: std::ops::RangeInclusive<usize> = 2..=8;
@@ -62,13 +63,16 @@ struct Market {
     participants: usize,
     currencies: usize,
     securities: Vec<SecurityLine>,
+    rate: u64,
 }
 
-/// What the calls change. Waiting orders stand by rising code.
+/// What the calls change. Waiting orders stand by rising code. The account is
+/// the market's own, which the fees go to, in each currency.
 #[derive(Clone, PartialEq, Eq, Debug)]
 struct State {
     money: [[Position; CURRENCY_LIMIT]; PARTICIPANT_LIMIT],
     pieces: [[Position; SECURITY_LIMIT]; PARTICIPANT_LIMIT],
+    account: [u64; CURRENCY_LIMIT],
     traded: [Traded; SECURITY_LIMIT],
     waiting: Vec<WaitingOrder>,
     codes_given: u64,
@@ -119,10 +123,12 @@ impl Engine {
                 return Err(Refused { number, place });
             }
         }
+        ensure(opening.rate <= RATE_LIMIT, refusal::RATE)?;
         let market = Market {
             participants,
             currencies,
             securities: opening.securities.clone(),
+            rate: opening.rate,
         };
         Ok(Engine {
             market,
@@ -151,6 +157,11 @@ impl Engine {
         self.state.pieces[participant][security]
     }
 
+    /// The market's own.
+    pub fn account(&self, currency: usize) -> u64 {
+        self.state.account[currency]
+    }
+
     pub fn traded(&self, security: usize) -> Traded {
         self.state.traded[security]
     }
@@ -173,6 +184,7 @@ impl State {
         State {
             money: Default::default(),
             pieces: Default::default(),
+            account: Default::default(),
             traded: Default::default(),
             waiting: Vec::with_capacity(WAITING_LIMIT),
             codes_given: 0,

@@ -13,7 +13,7 @@ use day::{Day, LONGEST_CALL};
 use crate::calls::{Opening, SecurityLine};
 use crate::damage;
 use crate::engine::{
-    CURRENCY_LIMIT, LOT_SIZE_LIMIT, PARTICIPANT_LIMIT, PRICE_LIMIT, SECURITY_LIMIT,
+    CURRENCY_LIMIT, LOT_SIZE_LIMIT, PARTICIPANT_LIMIT, PRICE_LIMIT, RATE_LIMIT, SECURITY_LIMIT,
 };
 use crate::random::Random;
 use crate::reader::TEXT_LIMIT;
@@ -41,9 +41,13 @@ struct Plan {
     show_percent: u64,
     collect_percent: u64,
     phase_calls: u64,
+    tariff_percent: u64,
+    tight_groups: u64,
+    tight_closing_orders: u64,
 }
 
-/// A day file lends nothing, shows nothing of its own and knows no collecting.
+/// A day file lends nothing, shows nothing of its own, knows no collecting and
+/// no tariff.
 const SENSIBLE: Plan = Plan {
     length: 2_000,
     orders: 60,
@@ -62,6 +66,9 @@ const SENSIBLE: Plan = Plan {
     show_percent: 0,
     collect_percent: 0,
     phase_calls: 0,
+    tariff_percent: 0,
+    tight_groups: 0,
+    tight_closing_orders: 0,
 };
 
 const SCRIPTED: Plan = Plan {
@@ -69,6 +76,9 @@ const SCRIPTED: Plan = Plan {
     show_percent: 2,
     collect_percent: 60,
     phase_calls: 1,
+    tariff_percent: 75,
+    tight_groups: 2,
+    tight_closing_orders: 5,
     ..SENSIBLE
 };
 
@@ -79,10 +89,10 @@ pub fn day_file(seed: u64) -> Vec<u8> {
 
 /// The script of a seed: mostly a day with words of scripts among its calls,
 /// often one with an auction before trading opens; at times with such words
-/// put in anywhere, or one that never was good.
+/// put in anywhere, with another rate, or one that never was good.
 pub fn script(seed: u64) -> Vec<u8> {
     let mut random = Random::new(!seed);
-    match random.below(16) {
+    match random.below(17) {
         0 => damage::script_oddity(&mut random),
         1..=3 => damage::with_script_lines(&mut random, text(seed, SCRIPTED)),
         4 => {
@@ -93,7 +103,8 @@ pub fn script(seed: u64) -> Vec<u8> {
             let text = auction_day(Random::new(random.number()));
             damage::damaged(&mut random, text)
         }
-        6..=10 => auction_day(random),
+        6 => damage::with_rate(&mut random, text(seed, SCRIPTED)),
+        7..=11 => auction_day(random),
         _ => text(seed, SCRIPTED),
     }
 }
@@ -143,7 +154,7 @@ fn small_day(mut random: Random, usual: Plan) -> Vec<u8> {
         ..usual
     };
     let plan = with_closing(&mut random, plan);
-    let opening = opening(&mut random, 4);
+    let opening = opening(&mut random, plan, 4);
     Day::new(random, plan, opening).write()
 }
 
@@ -154,7 +165,7 @@ fn medium_day(mut random: Random, usual: Plan) -> Vec<u8> {
         ..usual
     };
     let plan = with_closing(&mut random, plan);
-    let opening = opening(&mut random, PARTICIPANT_LIMIT as u64);
+    let opening = opening(&mut random, plan, PARTICIPANT_LIMIT as u64);
     Day::new(random, plan, opening).write()
 }
 
@@ -165,7 +176,7 @@ fn long_day(mut random: Random, usual: Plan) -> Vec<u8> {
         ..usual
     };
     let plan = with_closing(&mut random, plan);
-    let opening = opening(&mut random, PARTICIPANT_LIMIT as u64);
+    let opening = opening(&mut random, plan, PARTICIPANT_LIMIT as u64);
     Day::new(random, plan, opening).write()
 }
 
@@ -183,7 +194,7 @@ fn full_book_day(mut random: Random, usual: Plan) -> Vec<u8> {
         ..usual
     };
     let plan = with_closing(&mut random, plan);
-    let opening = opening(&mut random, 6);
+    let opening = opening(&mut random, plan, 6);
     Day::new(random, plan, opening).write()
 }
 
@@ -197,7 +208,7 @@ fn group_day(mut random: Random, usual: Plan) -> Vec<u8> {
         ..usual
     };
     let plan = with_closing(&mut random, plan);
-    let opening = opening(&mut random, 6);
+    let opening = opening(&mut random, plan, 6);
     Day::new(random, plan, opening).write()
 }
 
@@ -211,7 +222,7 @@ fn auction_day(mut random: Random) -> Vec<u8> {
         ..SCRIPTED
     };
     let plan = with_closing(&mut random, plan);
-    let opening = auction_opening(&mut random);
+    let opening = auction_opening(&mut random, plan);
     Day::new(random, plan, opening).write()
 }
 
@@ -226,7 +237,7 @@ fn closing_day(mut random: Random, usual: Plan) -> Vec<u8> {
         crossing_percent: 90,
         ..usual
     };
-    let opening = opening(&mut random, 5);
+    let opening = opening(&mut random, plan, 5);
     Day::new(random, plan, opening).write()
 }
 
@@ -240,7 +251,7 @@ fn spoiled_day(mut random: Random, usual: Plan) -> Vec<u8> {
         ..usual
     };
     let plan = with_closing(&mut random, plan);
-    let opening = opening(&mut random, PARTICIPANT_LIMIT as u64);
+    let opening = opening(&mut random, plan, PARTICIPANT_LIMIT as u64);
     Day::new(random, plan, opening).write()
 }
 
@@ -258,7 +269,7 @@ fn with_closing(random: &mut Random, plan: Plan) -> Plan {
     }
 }
 
-fn opening(random: &mut Random, most_participants: u64) -> Opening {
+fn opening(random: &mut Random, plan: Plan, most_participants: u64) -> Opening {
     let currencies = random.within(1, CURRENCY_LIMIT as u64);
     let most_securities = if random.chance(80) {
         3
@@ -272,10 +283,11 @@ fn opening(random: &mut Random, most_participants: u64) -> Opening {
         securities: (0..count)
             .map(|_| security_line(random, currencies))
             .collect(),
+        rate: rate(random, plan.tariff_percent),
     }
 }
 
-fn auction_opening(random: &mut Random) -> Opening {
+fn auction_opening(random: &mut Random, plan: Plan) -> Opening {
     let currencies = random.within(1, 2);
     let count = random.pick(&[1, 2, 4, 8, SECURITY_LIMIT]);
     Opening {
@@ -284,6 +296,7 @@ fn auction_opening(random: &mut Random) -> Opening {
         securities: (0..count)
             .map(|_| security_line(random, currencies))
             .collect(),
+        rate: rate(random, plan.tariff_percent),
     }
 }
 
@@ -297,6 +310,23 @@ fn security_line(random: &mut Random, currencies: u64) -> SecurityLine {
     }
 }
 
+/// In range, mostly at an edge. Days that plan no tariff take no random number
+/// here.
+fn rate(random: &mut Random, percent: u64) -> u64 {
+    if percent == 0 || !random.chance(percent) {
+        return 0;
+    }
+    let any_rate = random.within(1, RATE_LIMIT);
+    random.pick(&[
+        1,
+        RATE_LIMIT - 1,
+        RATE_LIMIT,
+        RATE_LIMIT,
+        any_rate,
+        any_rate,
+    ])
+}
+
 fn good_opening(random: &mut Random) -> Opening {
     let line = |currency| SecurityLine {
         currency,
@@ -307,5 +337,6 @@ fn good_opening(random: &mut Random) -> Opening {
         participants: random.within(4, 16),
         currencies: 2,
         securities: vec![line(0), line(1), line(0)],
+        rate: 0,
     }
 }

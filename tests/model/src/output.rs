@@ -6,13 +6,14 @@ use crate::engine::{Engine, Position};
 type PrintLines = fn(&Engine, &mut Vec<u8>);
 
 /// The lines of the end in their order, each from its level on.
-const END: [(u8, PrintLines); 6] = [
+const END: [(u8, PrintLines); 7] = [
     (0, print_money),
     (0, print_pieces),
     (1, print_phase),
     (1, print_turnovers),
     (1, print_codes),
     (1, print_waiting),
+    (3, print_market),
 ];
 
 pub fn print_end<const LEVEL: u8>(engine: &Engine, out: &mut Vec<u8>) {
@@ -114,6 +115,13 @@ fn print_codes(engine: &Engine, out: &mut Vec<u8>) {
 fn print_waiting(engine: &Engine, out: &mut Vec<u8>) {
     for order in engine.waiting() {
         print_waiting_order(out, order);
+    }
+}
+
+fn print_market(engine: &Engine, out: &mut Vec<u8>) {
+    for currency in 0..engine.currencies() {
+        let numbers = [currency as u64, engine.account(currency)];
+        print_line(out, b"MARKET", &numbers);
     }
 }
 

@@ -153,6 +153,14 @@ impl<'output> Printed<'output> {
         Ok(Traded { pieces, turnover })
     }
 
+    fn account(&mut self, currency: usize) -> Result<u64, String> {
+        let [printed, amount] = self.numbers("MARKET")?;
+        expect(printed == currency as u64, || {
+            format!("the market's account of {printed}, due of {currency}")
+        })?;
+        Ok(amount)
+    }
+
     fn waiting_order(&mut self) -> Result<WaitingOrder, String> {
         self.line::<7>("WAITS")?.read(|line| {
             Some(WaitingOrder {
@@ -295,13 +303,14 @@ impl Fed {
 type CheckLines = fn(&Fed, &mut Printed) -> Checked;
 
 /// The lines of the end in their order, each from its level on.
-const END: [(u8, CheckLines); 6] = [
+const END: [(u8, CheckLines); 7] = [
     (0, check_money),
     (0, check_pieces),
     (1, check_phase),
     (1, check_turnovers),
     (1, check_codes),
     (1, check_waiting),
+    (3, check_market),
 ];
 
 fn check_end<const LEVEL: u8>(fed: &Fed, printed: &mut Printed) -> Checked {
@@ -363,4 +372,12 @@ fn check_waiting(fed: &Fed, printed: &mut Printed) -> Checked {
         (0..count).map(|_| printed.waiting_order()).collect();
     fed.book.compare_waiting(&waiting?)?;
     fed.book.check_uncrossed()
+}
+
+fn check_market(fed: &Fed, printed: &mut Printed) -> Checked {
+    for currency in 0..fed.book.currencies() {
+        let account = printed.account(currency)?;
+        fed.book.compare_market(currency, account)?;
+    }
+    Ok(())
 }

@@ -66,7 +66,8 @@ impl<'text, const LEVEL: u8> LineReader<'text, LEVEL> {
     /// Reads H and the S lines it announces. A missing line counts as
     /// malformed, its number one past the last line's.
     pub fn heading(&mut self) -> Result<Opening, HeadingFault> {
-        let (participants, currencies, count) = self.heading_line(heading_counts)?;
+        let (participants, currencies, count, rate) =
+            self.heading_line(heading_numbers::<LEVEL>)?;
         let mut securities = Vec::new();
         for _ in 0..count {
             securities.push(self.heading_line(security_line)?);
@@ -75,6 +76,7 @@ impl<'text, const LEVEL: u8> LineReader<'text, LEVEL> {
             participants,
             currencies,
             securities,
+            rate,
         })
     }
 
@@ -152,6 +154,14 @@ impl<'line> Fields<'line> {
         number(self.next()?)
     }
 
+    /// A number that the line may lack, where it counts as 0.
+    fn number_or_0(&mut self) -> Option<u64> {
+        match self.rest {
+            Some(_) => self.number(),
+            None => Some(0),
+        }
+    }
+
     fn side(&mut self) -> Option<Side> {
         match self.letter()? {
             b'B' => Some(Side::Buy),
@@ -199,10 +209,15 @@ fn fields_after(letter: u8, line: &[u8]) -> Option<Fields<'_>> {
     (fields.letter()? == letter).then_some(fields)
 }
 
-fn heading_counts(line: &[u8]) -> Option<(u64, u64, u64)> {
+/// Participants, currencies, securities, and the rate from its level on.
+fn heading_numbers<const LEVEL: u8>(line: &[u8]) -> Option<(u64, u64, u64, u64)> {
     let mut fields = fields_after(b'H', line)?;
     let counts = (fields.number()?, fields.number()?, fields.number()?);
-    fields.end(counts)
+    let rate = match LEVEL {
+        3.. => fields.number_or_0()?,
+        _ => 0,
+    };
+    fields.end((counts.0, counts.1, counts.2, rate))
 }
 
 fn security_line(line: &[u8]) -> Option<SecurityLine> {

@@ -5,7 +5,7 @@ use std::fmt;
 
 use crate::calls::{Answer, Call};
 
-const MOST_REFUSALS: usize = 22;
+const MOST_REFUSALS: usize = 23;
 
 #[derive(Default)]
 pub struct Tally {
@@ -24,6 +24,8 @@ pub struct Tally {
     refusals: [u64; MOST_REFUSALS],
     /// How often each phase was shown; day files show none.
     phases: BTreeMap<String, u64>,
+    /// How often a market's account was shown with fees in it.
+    pub accounts_with_fees: u64,
 }
 
 impl Tally {
@@ -68,6 +70,7 @@ impl Tally {
                 [b'A', b',', ..] => self.count_answer(line),
                 [b'T', b',', ..] => self.trades += 1,
                 [b'P', b'H', b'A', b'S', b'E', b',', phase @ ..] => self.count_phase(phase),
+                [b'M', b'A', b'R', b'K', b'E', b'T', b',', ..] => self.count_account(line),
                 _ => {}
             }
         }
@@ -76,6 +79,10 @@ impl Tally {
     fn count_phase(&mut self, phase: &[u8]) {
         let phase = phase.escape_ascii().to_string();
         *self.phases.entry(phase).or_default() += 1;
+    }
+
+    fn count_account(&mut self, line: &[u8]) {
+        self.accounts_with_fees += u64::from(!line.ends_with(b",0"));
     }
 
     fn count_answer(&mut self, line: &[u8]) {
@@ -118,6 +125,10 @@ impl fmt::Display for Tally {
         }
         for (phase, count) in &self.phases {
             write!(out, " {phase}: {count}")?;
+        }
+        if self.accounts_with_fees > 0 {
+            let count = self.accounts_with_fees;
+            write!(out, "\n  market's accounts shown with fees {count}")?;
         }
         Ok(())
     }

@@ -7,9 +7,15 @@ pub fn write_heading(opening: &Opening, text: &mut Vec<u8>) {
         participants,
         currencies,
         securities,
+        rate,
     } = opening;
     let count = securities.len();
-    line(text, &format!("H,{participants},{currencies},{count}"));
+    let counts = format!("H,{participants},{currencies},{count}");
+    // A day file has no rate.
+    match rate {
+        0 => line(text, &counts),
+        _ => line(text, &format!("{counts},{rate}")),
+    }
     for security in securities {
         let numbers = (security.currency, security.lot_size, security.price_step);
         line(

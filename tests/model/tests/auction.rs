@@ -48,6 +48,7 @@ fn collecting(orders: &[Order]) -> Engine {
         participants: 2,
         currencies: 1,
         securities: vec![line],
+        rate: 0,
     };
     let mut engine = Engine::open(&opening, true).expect("the opening is in range");
     let movement = |participant, amount| Movement {

@@ -140,6 +140,46 @@ fn faulty_outputs_of_an_auction_are_found() {
     }
 }
 
+/// At 1 % 2 of the buy's 3 lots trade: the sum of 198 costs 199 and brings
+/// 197. The third lot needs 99 and no fee, and the odd unit of the need of all
+/// three, 299, is free again.
+const TARIFF_TEXT: &str = "H,2,1,1,1000\nS,0,1,1\nR,0,0,299\nD,1,0,2\nL,1,0,99,2,K\n\
+                           B,0,0,99,3,K\n";
+
+fn altered_tariff(line: &str, by: &str) -> Result<(), String> {
+    let output = script_output(TARIFF_TEXT.as_bytes());
+    let output = String::from_utf8_lossy(&output);
+    assert!(output.contains(line), "{line} is part of {output}");
+    let altered = output.replacen(line, by, 1);
+    check_printed::<SCRIPT>(TARIFF_TEXT.as_bytes(), altered.as_bytes())
+}
+
+#[test]
+fn the_tariff_adds_up() {
+    assert_eq!(altered_tariff("MARKET,0,2\n", "MARKET,0,2\n"), Ok(()));
+}
+
+/// The last ones are fees counted in the sum, and in T.
+#[test]
+fn faulty_outputs_with_a_tariff_are_found() {
+    let faults = [
+        ("M,0,0,1,99\n", "M,0,0,2,99\n"),
+        ("M,0,0,1,99\n", "M,0,0,0,100\n"),
+        ("M,1,0,197,0\n", "M,1,0,198,0\n"),
+        ("MARKET,0,2\n", "MARKET,0,1\n"),
+        ("MARKET,0,2\n", "MARKET,0,4\n"),
+        ("MARKET,0,2\n", "MARKET,1,2\n"),
+        ("MARKET,0,2\n", "MARKET,0,2,0\n"),
+        ("MARKET,0,2\n", "MARKET,0,2\nMARKET,1,0\n"),
+        ("MARKET,0,2\n", ""),
+        ("T,2,1,0,1,0,99,2,198\n", "T,2,1,0,1,0,99,2,199\n"),
+        ("TURNOVER,0,2,198\n", "TURNOVER,0,2,199\n"),
+    ];
+    for (line, by) in faults {
+        assert!(altered_tariff(line, by).is_err(), "{line} replaced by {by}");
+    }
+}
+
 /// While open no waiting buy reaches a waiting sell: here the buy, shown as
 /// if it had waited beside the sell that it meets.
 #[test]
@@ -147,7 +187,7 @@ fn crossing_orders_while_open_are_found() {
     let text = "H,1,1,1\nS,0,10,5\nR,0,0,1000\nD,0,0,10\nL,0,0,95,1,K\nB,0,0,100,1,K\n";
     let output = "A,1,0,0,0,0,0,0\nA,3,0,0,0,0,0,0\nA,4,0,0,0,0,0,0\nA,5,0,0,1,0,1,0\n\
                   A,6,0,0,2,0,1,0\nM,0,0,0,1000\nQ,0,0,0,10\nPHASE,open\nTURNOVER,0,0,0\n\
-                  CODES,2\nWAITS,0,1,L,0,1,K,95\nWAITS,0,2,B,0,1,K,100\n";
+                  CODES,2\nWAITS,0,1,L,0,1,K,95\nWAITS,0,2,B,0,1,K,100\nMARKET,0,0\n";
     let found = check_printed::<SCRIPT>(text.as_bytes(), output.as_bytes());
     assert_eq!(
         found,

@@ -238,6 +238,7 @@ fn buyers_are_freed_by_the_fall_of_their_own_need() {
         "WAITS,0,2,B,0,10,K,95",
         "WAITS,1,3,L,0,4,K,95",
         "WAITS,1,4,L,0,8,K,90",
+        "MARKET,0,0",
     ];
     let auction = [
         "A,11,0,0,0,12,0,3",
@@ -254,6 +255,7 @@ fn buyers_are_freed_by_the_fall_of_their_own_need() {
         "PHASE,closing",
         "TURNOVER,0,0,0",
         "CODES,4",
+        "MARKET,0,0",
     ];
     assert_prints(&lines, &[&collecting[..], &auction].concat());
 }
@@ -275,7 +277,7 @@ fn trading_and_closing_after_the_auction() {
         "SHOW",
     ];
     let output = printed(&[&RESERVES[..], &lines].concat());
-    let after: Vec<&str> = output.lines().skip(6).take(24).collect();
+    let after: Vec<&str> = output.lines().skip(6).take(26).collect();
     let expected = [
         "A,8,0,0,0,10,0,1",
         "T,2,1,0,1,0,95,10,9500",
@@ -287,6 +289,7 @@ fn trading_and_closing_after_the_auction() {
         "PHASE,open",
         "TURNOVER,0,0,0",
         "CODES,2",
+        "MARKET,0,0",
         "A,10,0,0,3,0,3,0",
         "A,11,0,0,4,3,0,1",
         "T,4,3,0,1,0,105,3,3150",
@@ -301,6 +304,7 @@ fn trading_and_closing_after_the_auction() {
         "TURNOVER,0,30,3150",
         "CODES,5",
         "WAITS,0,5,B,0,1,P,0",
+        "MARKET,0,0",
     ];
     assert_eq!(after, expected);
 }
@@ -329,6 +333,7 @@ fn orders_that_do_not_meet_come_off() {
         "CODES,2",
         "WAITS,1,1,L,0,10,K,105",
         "WAITS,0,2,B,0,10,K,100",
+        "MARKET,0,0",
         "A,9,0,0,0,0,0,0",
         "A,10,0,0,3,0,0,0",
         "M,0,0,100000,0",
@@ -338,6 +343,7 @@ fn orders_that_do_not_meet_come_off() {
         "PHASE,open",
         "TURNOVER,0,0,0",
         "CODES,3",
+        "MARKET,0,0",
     ];
     assert_eq!(after, expected);
 }
@@ -375,6 +381,8 @@ fn securities_ascend() {
         "TURNOVER,0,0,0",
         "TURNOVER,1,0,0",
         "CODES,4",
+        "MARKET,0,0",
+        "MARKET,1,0",
     ];
     assert_eq!(after, expected);
 }

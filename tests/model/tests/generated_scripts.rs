@@ -15,7 +15,7 @@ fn every_refusal_and_phase_within_reach_is_reached() -> Result<(), String> {
         checked_output::<SCRIPT>(&script(seed), &mut tally)
             .map_err(|fault| format!("seed {seed}: {fault}"))?;
     }
-    for refusal in (2..=12).chain(14..=21) {
+    for refusal in (2..=12).chain(14..=22) {
         assert!(tally.refusals(refusal) > 0, "refusal {refusal}");
     }
     for refusal in [1, 13] {
@@ -28,5 +28,7 @@ fn every_refusal_and_phase_within_reach_is_reached() -> Result<(), String> {
     assert!(auctions > SCRIPTS / 2, "{auctions} auctions");
     assert!(trading > SCRIPTS / 3, "{trading} auctions that traded");
     assert!(auctions > trading, "auctions without a trade");
+    let with_fees = tally.accounts_with_fees;
+    assert!(with_fees > SCRIPTS, "{with_fees} accounts with fees");
     Ok(())
 }

@@ -17,12 +17,13 @@ use common::{answers, assert_prints, assert_refusals, printed};
 const HEADING: [&str; 2] = ["H,1,1,1", "S,0,10,5"];
 
 /// Its lines of the end.
-const NOTHING: [&str; 5] = [
+const NOTHING: [&str; 6] = [
     "M,0,0,0,0",
     "Q,0,0,0,0",
     "PHASE,open",
     "TURNOVER,0,0,0",
     "CODES,0",
+    "MARKET,0,0",
 ];
 
 /// The paper's day, which ends with nothing waiting: 10 lots of 10 at 95 and
@@ -31,7 +32,7 @@ const NOTHING: [&str; 5] = [
 fn the_worked_example_shows_its_end() -> Result<(), String> {
     let example = cases()?.swap_remove(0);
     let mut expected = example.expected;
-    expected.extend_from_slice(b"PHASE,open\nTURNOVER,0,150,14500\nCODES,3\n");
+    expected.extend_from_slice(b"PHASE,open\nTURNOVER,0,150,14500\nCODES,3\nMARKET,0,0\n");
     let output = checked_output::<SCRIPT>(&example.text, &mut Tally::default())?;
     assert_eq!(
         String::from_utf8_lossy(&output),
@@ -67,6 +68,7 @@ fn a_waiting_order_is_shown() {
         "TURNOVER,0,100,9500",
         "CODES,2",
         "WAITS,0,2,B,0,10,K,100",
+        "MARKET,0,0",
     ];
     assert_prints(&lines, &expected);
 }
@@ -99,6 +101,7 @@ fn waiting_orders_are_shown_in_their_order() {
         "WAITS,0,2,L,1,7,K,9",
         "WAITS,0,3,B,0,1,K,10",
         "WAITS,1,4,B,1,3,K,8",
+        "MARKET,0,0",
     ];
     assert_eq!(end, expected);
 }
@@ -142,6 +145,7 @@ fn each_phase_is_shown() {
         "TURNOVER,0,100,9500",
         "CODES,3",
         "WAITS,1,3,L,0,2,K,105",
+        "MARKET,0,0",
     ];
     let closing = [
         "A,9,0,0,0,0,0,0",
@@ -153,6 +157,7 @@ fn each_phase_is_shown() {
         "PHASE,closing",
         "TURNOVER,0,100,9500",
         "CODES,3",
+        "MARKET,0,0",
         "A,11,0,0,4,0,3,0",
         "A,12,0,0,5,0,2,0",
         "A,13,0,0,0,0,0,0",
@@ -165,6 +170,7 @@ fn each_phase_is_shown() {
         "CODES,5",
         "WAITS,0,4,B,0,3,P,0",
         "WAITS,1,5,L,0,2,P,0",
+        "MARKET,0,0",
     ];
     let ended = [
         "A,14,0,0,0,2,0,1",
@@ -179,6 +185,7 @@ fn each_phase_is_shown() {
         "PHASE,closed",
         "TURNOVER,0,100,9500",
         "CODES,5",
+        "MARKET,0,0",
     ];
     let expected = [&opened[..], &closing, &ended, &closed, &closed].concat();
     assert_prints(&lines, &expected);
@@ -413,7 +420,7 @@ fn show_after_members() {
 /// A heading that is refused or malformed ends the output.
 #[test]
 fn headings_that_end_the_output() {
-    let headings: [(&[&str], &str); 8] = [
+    let headings: [(&[&str], &str); 9] = [
         (&["SHOW", "H,1,1,1", "S,0,10,5"], "A,1,19,0,0,0,0,0"),
         (&["LENT,0", "H,1,1,1", "S,0,10,5"], "A,1,19,0,0,0,0,0"),
         (&["H,1,1,1", "SHOW", "S,0,10,5"], "A,2,19,0,0,0,0,0"),
@@ -421,6 +428,7 @@ fn headings_that_end_the_output() {
         (&["H,1,1,2", "S,0,10,5"], "A,3,19,0,0,0,0,0"),
         (&["H,17,1,1", "S,0,10,5", "SHOW"], "A,1,17,0,0,0,0,0"),
         (&["H,1,1,0", "SHOW"], "A,1,17,0,0,0,0,0"),
+        (&["H,1,1,1,1001", "S,0,10,5", "SHOW"], "A,1,22,0,0,0,0,0"),
         (
             &["H,1,1,2", "S,0,10,5", "S,0,10,0", "SHOW"],
             "A,3,18,2,0,0,0,0",
@@ -506,8 +514,9 @@ fn a_day_file_knows_no_words_of_scripts() {
     assert_eq!(String::from_utf8_lossy(&output), expected);
 }
 
-/// As a script, a day file prints its day and then only the lines that level
-/// 1 adds to the end; nothing is added where the heading is refused.
+/// As a script, a day file prints its day and then only the lines that the
+/// levels add to the end; nothing is added where the heading is refused. (A
+/// fourth number in `H` would make another script of it; no seed here has one.)
 #[test]
 fn a_day_file_is_a_script() {
     for seed in 1..=320 {

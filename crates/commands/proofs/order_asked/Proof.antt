@@ -86,7 +86,7 @@ returns-3 c =
         ticket = a .ticket;
         said = refl;
         entry = o .entry-of .ensures;
-        row = refl;
+        listing = refl;
         matched = sym (c .before .is-collecting .ensures) ∙ c .if2 .left;
         asked = none e;
       },

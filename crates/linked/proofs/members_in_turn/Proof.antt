@@ -99,8 +99,8 @@ at c = c .before .loop .made * 8
 here : (c : tie.In-loop Inv-loop μ-loop) → at c ≡ numbersPerTrade * c .before .loop .made
 here c = omega arith
 
-add-t39 : tie.Need-add-t39 Inv-loop μ-loop
-add-t39 c = omega (arith, place (inside c))
+add-t40 : tie.Need-add-t40 Inv-loop μ-loop
+add-t40 c = omega (arith, place (inside c))
 
 element-copy-out-row : tie.Need-element-copy-out-row Inv-loop μ-loop
 element-copy-out-row c =
@@ -232,8 +232,8 @@ loop-less c =
 loop-again : tie.Need-loop-again Inv-loop μ-loop
 loop-again c = goes (c .before)
 
-add-t53 : tie.Need-add-t53 Inv-loop μ-loop
-add-t53 c =
+add-t55 : tie.Need-add-t55 Inv-loop μ-loop
+add-t55 c =
     let b = start (c .before .before) in
     omega (arith, code-before (from b) (b .pre))
 
@@ -255,7 +255,7 @@ members-in-turn-spec =
     mul-member
     array-copy-out-member
     first-no-requires
-    add-t39
+    add-t40
     mul-row
     element-copy-out-row
     entry-of-requires
@@ -274,6 +274,6 @@ members-in-turn-spec =
     add-i
     loop-less
     loop-again
-    add-t53
+    add-t55
     same-length-2
     returns-2)

@@ -1,5 +1,5 @@
 -- `matching::fill` meets its contract: the search keeps the best of the orders passed, and each turn leaves what the
--- definition's fill comes to as it was, under all rules that have the entry's row.
+-- definition's fill comes to as it was, under all rules that have the entry's listing.
 use Prim.Native.Nat.{ℕ, _+_, _-_, _*_, _≤_, _<_, min}
 use native.Mathlib.Nat.{min-le-left}
 use native.Mathlib.Omega.{arith}
@@ -27,28 +27,28 @@ use Rattle.matching.proofs.fill.Statement.{statement}
 use Rattle.matching.proofs.fill.Tie as tie
 
 abbrev Inv-search : tie.InvT-search
-Inv-search e row money pieces trades book security left made side reach count best₀ bound₀ i₀ best bound i =
+Inv-search e listing money pieces trades book security left made side reach count best₀ bound₀ i₀ best bound i =
     Seeks e (book .orders) reach count i best bound
 
 abbrev μ-search : tie.MeasureT-search
-μ-search e row money pieces trades book security left made side reach count best₀ bound₀ i₀ best bound i = count - i
+μ-search e listing money pieces trades book security left made side reach count best₀ bound₀ i₀ best bound i = count - i
 
 abbrev Inv-loop : tie.InvT-loop
-Inv-loop e row money pieces trades book₀ security left made side reach count best bound i at lots last j₀ book j =
+Inv-loop e listing money pieces trades book₀ security left made side reach count best bound i at lots last j₀ book j =
     (book .turnover ≡ book₀ .turnover) × Moved (book₀ .orders) (book .orders) at last j
 
 abbrev μ-loop : tie.MeasureT-loop
-μ-loop e row money pieces trades book₀ security left made side reach count best bound i at lots last j₀ book j = last - j
+μ-loop e listing money pieces trades book₀ security left made side reach count best bound i at lots last j₀ book j = last - j
 
 abbrev Inv-fill : tie.InvT-fill
-Inv-fill e row money₀ pieces₀ trades₀ book₀ security left₀ made₀ side reach money pieces trades book left made =
+Inv-fill e listing money₀ pieces₀ trades₀ book₀ security left₀ made₀ side reach money pieces trades book left made =
     (length (book .orders) ≡ maxWaiting)
-    × ((r : Rules) → Flies r row (coded book₀ e) e money₀ pieces₀
-    → Going (record { r = r; l = row; e = e; m = money₀; k = pieces₀; b = coded book₀ e; v = trades₀ }) money pieces trades
+    × ((r : Rules) → Flies r listing (coded book₀ e) e money₀ pieces₀
+    → Going (record { r = r; l = listing; e = e; m = money₀; k = pieces₀; b = coded book₀ e; v = trades₀ }) money pieces trades
     (coded book e) left made)
 
 abbrev μ-fill : tie.MeasureT-fill
-μ-fill e row money₀ pieces₀ trades₀ book₀ security left₀ made₀ side reach money pieces trades book left made = book .count + left
+μ-fill e listing money₀ pieces₀ trades₀ book₀ security left₀ made₀ side reach money pieces trades book left made = book .count + left
 
 price-of-requires : tie.Need-price-of-requires Inv-search μ-search Inv-loop μ-loop Inv-fill μ-fill
 price-of-requires c κs = tt
@@ -90,7 +90,7 @@ abbrev going : (c : Turn) →
     let p = (outset (c .before)) .pre in
     let a = (outset (c .before)) .args in
     let f = c .fill in
-    Going (record { r = p .rules; l = a .row; e = a .e; m = a .money .now; k = a .pieces .now; b = coded (a .b) (a .e); v = a .trades .now })
+    Going (record { r = p .rules; l = a .listing; e = a .e; m = a .money .now; k = a .pieces .now; b = coded (a .b) (a .e); v = a .trades .now })
     (f .money) (f .pieces) (f .trades) (coded (f .book) (a .e)) (f .left) (f .made)
 going c = let p = (outset (c .before)) .pre in c .fill .inv .1 (p .rules) (p .flies)
 

@@ -8,7 +8,7 @@ use Prim.Native.Nat.{ℕ, suc, _≤_, _<_, _-_, _+_}
 use Rattle.market.specs.declared.Rules.{Rules}
 use Rattle.market.specs.Day.{row}
 use Rattle.market.specs.Sound.{rowSound}
-use Rattle.market.specs.Opening.{firstWrong}
+use Rattle.market.specs.Opening.{firstWrong, wrongLine}
 use Rattle.amounts.proofs.Answers.{fails, holds}
 use Rattle.opening.proofs.first_wrong.Statement.{statement}
 use Rattle.opening.proofs.first_wrong.Tie as tie
@@ -29,23 +29,21 @@ right-here r n i h e =
     rw (one, e) (ap (firstWrong r (n - (i + 1))) (sym (add-one i)))
 
 abbrev Inv-loop : tie.InvT-loop
-Inv-loop participants currencies securities table i₀ i =
-    let r : Rules = record { participants = participants; currencies = currencies; securities = securities; table = table } in
-    (i ≤ securities) × (firstWrong r securities 0 ≡ firstWrong r (securities - i) i)
+Inv-loop rules i₀ i = (i ≤ rules .securities) × (wrongLine rules ≡ firstWrong rules (rules .securities - i) i)
 
 abbrev μ-loop : tie.MeasureT-loop
-μ-loop participants currencies securities table i₀ i = securities - i
+μ-loop rules i₀ i = rules .securities - i
 
 loop-holds : tie.Need-loop-holds Inv-loop μ-loop
 loop-holds c =
-    let whole : c .args .securities - 0 ≡ c .args .securities = omega arith in
+    let whole : c .args .t1 .securities - 0 ≡ c .args .t1 .securities = omega arith in
     (omega arith, rw whole)
 
 mul-row : tie.Need-mul-row Inv-loop μ-loop
 mul-row c = omega arith
 
-array-copy-out-row : tie.Need-array-copy-out-row Inv-loop μ-loop
-array-copy-out-row c = omega arith
+element-copy-out-row : tie.Need-element-copy-out-row Inv-loop μ-loop
+element-copy-out-row c = omega arith
 
 row-sound-requires : tie.Need-row-sound-requires Inv-loop μ-loop
 row-sound-requires c κs = search needs
@@ -75,7 +73,7 @@ returns-2 : tie.Need-returns-2 Inv-loop μ-loop
 unfolding firstWrong
 returns-2 c =
     let l = c .before in
-    let none : l .before .args .securities - l .loop .i ≡ 0 = omega arith in
+    let none : l .before .args .t1 .securities - l .loop .i ≡ 0 = omega arith in
     sym (l .loop .inv .1 ∙ rw none)
 
 pub first-wrong-spec : {M : Type 1} → statement M
@@ -86,7 +84,7 @@ first-wrong-spec =
     μ-loop
     loop-holds
     mul-row
-    array-copy-out-row
+    element-copy-out-row
     row-sound-requires
     add-result
     returns

@@ -1,5 +1,5 @@
 -- `orders::enter` meets its contract: the need is blocked, the entry matched, and what is left of it waits or is freed,
--- under all rules that have the entry's row.
+-- under all rules that have the entry's listing.
 use Prim.Native.Nat.{ℕ, _-_, _<_}
 use native.Mathlib.Omega.{arith}
 use mathlib.Core.Path.{_≡_, ap, _∙_}
@@ -94,7 +94,7 @@ waits-is c = c .left-waiting .ensures ∙ ap (leftWaiting ((start (blocked (matc
 done : (c : Matched) (r : Rules) →
     let a = (start (blocked c)) .args in
     let k = blocked c in
-    (accepts : Accepts r (a .row) (a .t1) (a .entry) (a .force) (a .money .now) (a .pieces .now)) →
+    (accepts : Accepts r (a .listing) (a .t1) (a .entry) (a .force) (a .money .now) (a .pieces .now)) →
     FilledAs (fill (openDay r (k .block-need .last .0) (k .block-need .last .1 .0)
     (coded (a .t1) (a .entry))) (a .entry)) r (a .entry) (a .trades .now) (c .fill .last .1 .1 .1 .0)
     (c .fill .last .1 .1 .1 .1 .0) (c .fill .last .1 .1 .1 .1 .1 .0) (c .fill .result)
@@ -159,13 +159,13 @@ returns c = λ r accepts.
     let k = blocked m in
     let b2 = m .fill .result in
     let t = turnoverAt (b2 .turnover) ((entry w) .security) in
-    let row = (start k) .args .row in
+    let listing = (start k) .args .listing in
     let size = (sized-book b2 (m .fill .ok)) .orders in
     rw (rest-is w)
     (gives-waits accepts (k .block-need .ensures .0) (k .block-need .ensures .1) (done m r accepts)
     (w .left-waiting .result) (waits-is w)
-    (f .free-need .ensures .0 ∙ ap (λ (o : Order). moneyWith release row t o (m .fill .last .1 .1 .1 .0)) (dropped-is (f .before)))
-    (f .free-need .ensures .1 ∙ ap (λ (o : Order). piecesWith release row t o (m .fill .last .1 .1 .1 .1 .0)) (dropped-is (f .before)))
+    (f .free-need .ensures .0 ∙ ap (λ (o : Order). moneyWith release listing t o (m .fill .last .1 .1 .1 .0)) (dropped-is (f .before)))
+    (f .free-need .ensures .1 ∙ ap (λ (o : Order). piecesWith release listing t o (m .fill .last .1 .1 .1 .1 .0)) (dropped-is (f .before)))
     (c .if1 .taken) (omega (arith, index c, size)))
 
 same-length-2 : tie.Need-same-length-2
@@ -179,11 +179,11 @@ returns-2 c = λ r accepts.
     let k = blocked m in
     let b2 = m .fill .result in
     let t = turnoverAt (b2 .turnover) ((entry w) .security) in
-    let row = (start k) .args .row in
+    let listing = (start k) .args .listing in
     gives-done accepts (k .block-need .ensures .0) (k .block-need .ensures .1) (done m r accepts)
     (w .left-waiting .result) (waits-is w)
-    (f .free-need .ensures .0 ∙ ap (λ (o : Order). moneyWith release row t o (m .fill .last .1 .1 .1 .0)) (dropped-is (f .before)))
-    (f .free-need .ensures .1 ∙ ap (λ (o : Order). piecesWith release row t o (m .fill .last .1 .1 .1 .1 .0)) (dropped-is (f .before)))
+    (f .free-need .ensures .0 ∙ ap (λ (o : Order). moneyWith release listing t o (m .fill .last .1 .1 .1 .0)) (dropped-is (f .before)))
+    (f .free-need .ensures .1 ∙ ap (λ (o : Order). piecesWith release listing t o (m .fill .last .1 .1 .1 .1 .0)) (dropped-is (f .before)))
     (omega (arith, c .if1 .left))
 
 pub enter-spec : {M : Type 1} → statement M

@@ -41,18 +41,18 @@ covers-requires c κs =
     let p = c .before .before .before .before in
     let b = p .before .before in
     rw (c .entry-of .ensures)
-    (reckonable (b .args .row) (b .args .turnover) (b .pre) (holds (p .before .price-sound .ensures) (p .if1 .left)))
+    (reckonable (b .args .listing) (b .args .turnover) (b .pre) (holds (p .before .price-sound .ensures) (p .if1 .left)))
 
 -- question 14 is asked of the definition's entry
 asked : (c : tie.After-covers) →
     let b = c .before .before .before .before .before .before .before in
     let a = b .args in
     c .covers .result
-    ≡ coveredBy (a .row) (a .turnover) (entryWith (a .codes) (a .participant) (a .member)) (a .money .now) (a .pieces .now)
+    ≡ coveredBy (a .listing) (a .turnover) (entryWith (a .codes) (a .participant) (a .member)) (a .money .now) (a .pieces .now)
 asked c =
     let a = c .before .before .before .before .before .before .before .args in
     c .covers .ensures
-    ∙ ap (λ o. coveredBy (a .row) (a .turnover) o (a .money .now) (a .pieces .now)) (c .before .entry-of .ensures)
+    ∙ ap (λ o. coveredBy (a .listing) (a .turnover) o (a .money .now) (a .pieces .now)) (c .before .entry-of .ensures)
 
 returns-4 : tie.Need-returns-4
 returns-4 c =

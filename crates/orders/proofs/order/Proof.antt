@@ -110,7 +110,7 @@ array-copy-out-row c = listed (c .before)
 is-collecting-requires : tie.Need-is-collecting-requires
 is-collecting-requires c κs = search needs
 
--- where the phase is asked, behind the row
+-- where the phase is asked, behind the listing
 abbrev whole : tie.After-is-collecting → tie.Else3
 whole c = c .before .before .before
 

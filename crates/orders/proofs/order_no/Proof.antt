@@ -1,4 +1,4 @@
--- `orders::order_no` meets its contract: questions 4 to 7, then the others on row and turnover of the security.
+-- `orders::order_no` meets its contract: questions 4 to 7, then the others on listing and turnover of the security.
 use Prim.Native.Nat.{_<_}
 use native.Mathlib.Omega.{arith}
 use mathlib.Core.Path.{_≡_}

@@ -1,35 +1,28 @@
--- `pairing::free_all` meets its contract: order by order, what each needs is freed, under all rules that have the table.
+-- `pairing::free_all` meets its contract: order by order, what each needs is freed, in all phases.
 use Prim.Native.Nat.{_-_, _<_}
 use native.Mathlib.Omega.{arith}
-use mathlib.Core.Path.{_≡_, ap, sym, _∙_, subst}
-use mathlib.Core.List.{List}
-use lib.ListN.{getD}
 use Rattle.market.specs.declared.Phase.{Phase}
-use Rattle.market.specs.declared.Security.{Security}
 use Rattle.market.specs.Limits.{maxSecurities, maxWaiting}
-use Rattle.market.specs.declared.Rules.{Rules}
-use Rattle.market.specs.Day.{noSecurity, orderAt, turnoverAt}
+use Rattle.market.specs.Day.{orderAt}
 use Rattle.market.specs.View.{dayOf}
-use Rattle.market.specs.Positions.{release}
 use Rattle.invariant.specs.Standing.{Standing}
-use Rattle.waiting.specs.Claims.{Freeable, moneyWith, piecesWith}
 use Rattle.pairing.proofs.Leaving.{Leaving, leaving-ends, leaving-next, leaving-ready, leaving-security}
 use Rattle.pairing.proofs.Leaving.{count-room, leaving-starts}
 use Rattle.pairing.proofs.free_all.Statement.{statement}
 use Rattle.pairing.proofs.free_all.Tie as tie
 
 abbrev Inv-loop : tie.InvT-loop
-Inv-loop money₀ pieces₀ book table count i₀ money pieces i =
-    (r : Rules) (x : Phase) → r .table ≡ table → Standing (dayOf r x money₀ pieces₀ book)
-    → Leaving r x book money₀ pieces₀ money pieces i
+Inv-loop money₀ pieces₀ book rules count i₀ money pieces i =
+    (x : Phase) → Standing (dayOf rules x money₀ pieces₀ book)
+    → Leaving rules x book money₀ pieces₀ money pieces i
 
 abbrev μ-loop : tie.MeasureT-loop
-μ-loop money₀ pieces₀ book table count i₀ money pieces i = count - i
+μ-loop money₀ pieces₀ book rules count i₀ money pieces i = count - i
 
 loop-holds : tie.Need-loop-holds Inv-loop μ-loop
-loop-holds c = λ r x e st. leaving-starts r x _ _ _ st
+loop-holds c = λ x st. leaving-starts _ x _ _ _ st
 
--- a turn of the loop under the rules that the caller vouches for
+-- a turn of the loop in the phase that the caller vouches for
 abbrev Turn : Type 0
 Turn = tie.In-loop Inv-loop μ-loop
 
@@ -39,9 +32,9 @@ start c = c .before .before
 going : (c : Turn) →
     let a = (start c) .args in
     let p = (start c) .pre in
-    Leaving (p .rules) (p .phase) (a .t1) (a .money .now) (a .pieces .now) (c .before .loop .money) (c .before .loop .pieces)
+    Leaving (a .t2) (p .phase) (a .t1) (a .money .now) (a .pieces .now) (c .before .loop .money) (c .before .loop .pieces)
     (c .before .loop .i)
-going c = let p = (start c) .pre in c .before .loop .inv (p .rules) (p .phase) (p .table) (p .standing)
+going c = let p = (start c) .pre in c .before .loop .inv (p .phase) (p .standing)
 
 inside : (c : Turn) → c .before .loop .i < maxWaiting
 inside c = omega (arith, c .loop-test .taken, count-room ((start c) .args .t1) ((start c) .pre .standing .room))
@@ -58,8 +51,8 @@ element-copy-out-o c = inside c
 mul-row : tie.Need-mul-row Inv-loop μ-loop
 mul-row c = omega (arith, known (c .before))
 
-array-copy-out-row : tie.Need-array-copy-out-row Inv-loop μ-loop
-array-copy-out-row c = known (c .before)
+element-copy-out-row : tie.Need-element-copy-out-row Inv-loop μ-loop
+element-copy-out-row c = known (c .before)
 
 mul-turnover : tie.Need-mul-turnover Inv-loop μ-loop
 mul-turnover c = omega (arith, known (c .before .before))
@@ -70,11 +63,7 @@ element-copy-out-turnover c = known (c .before .before)
 free-need-requires : tie.Need-free-need-requires Inv-loop μ-loop
 free-need-requires c κs =
     let t = c .before .before .before .before .before in
-    let b = (start t) .args .t1 in
-    let o = orderAt (b .orders) (t .before .loop .i) in
-    subst (λ (w : List Security). Freeable (getD w (o .security) noSecurity) (turnoverAt (b .turnover) (o .security)) o
-    (t .before .loop .money) (t .before .loop .pieces)) ((start t) .pre .table)
-    (leaving-ready (going t) (t .loop-test .taken))
+    leaving-ready (going t) (t .loop-test .taken)
 
 abbrev turn : tie.After-free-need Inv-loop μ-loop → Turn
 turn c = c .before .before .before .before .before .before
@@ -86,19 +75,12 @@ loop-less : tie.Need-loop-less Inv-loop μ-loop
 loop-less c = omega (arith, (turn c) .loop-test .taken)
 
 loop-again : tie.Need-loop-again Inv-loop μ-loop
-loop-again c = λ r x e st.
+loop-again c = λ x st.
     let t = turn c in
-    let b = (start t) .args .t1 in
-    let o = orderAt (b .orders) (t .before .loop .i) in
-    let q = turnoverAt (b .turnover) (o .security) in
-    leaving-next (t .before .loop .inv r x e st) (t .loop-test .taken)
-    (c .free-need .ensures .0
-    ∙ ap (λ (w : List Security). moneyWith release (getD w (o .security) noSecurity) q o (t .before .loop .money)) (sym e))
-    (c .free-need .ensures .1
-    ∙ ap (λ (w : List Security). piecesWith release (getD w (o .security) noSecurity) q o (t .before .loop .pieces)) (sym e))
+    leaving-next (t .before .loop .inv x st) (t .loop-test .taken) (c .free-need .ensures .0) (c .free-need .ensures .1)
 
 returns : tie.Need-returns Inv-loop μ-loop
-returns c = λ r x y e st. leaving-ends (c .before .loop .inv r x e st) (c .loop-test .left) y
+returns c = λ x y st. leaving-ends (c .before .loop .inv x st) (c .loop-test .left) y
 
 pub free-all-spec : {M : Type 1} → statement M
 free-all-spec =
@@ -110,7 +92,7 @@ free-all-spec =
     mul-o
     element-copy-out-o
     mul-row
-    array-copy-out-row
+    element-copy-out-row
     mul-turnover
     element-copy-out-turnover
     free-need-requires

@@ -1,5 +1,5 @@
 -- `pairing::pair_all` meets its contract: both searches keep the best of the orders passed, and each turn leaves what the
--- definition's pairing comes to as it was, under all rules that have the security's row.
+-- definition's pairing comes to as it was, under all rules that have the security's listing.
 use Prim.Native.Nat.{ℕ, _+_, _-_, _≤_, _<_, min}
 use native.Mathlib.Nat.{min-le-left, min-le-right}
 use native.Mathlib.Omega.{arith}
@@ -31,29 +31,29 @@ use Rattle.pairing.proofs.pair_all.Statement.{statement}
 use Rattle.pairing.proofs.pair_all.Tie as tie
 
 abbrev Inv-search : tie.InvT-search
-Inv-search security price row money pieces trades book turnover seller buyer made count buys₀ sells₀ i₀ buys sells i =
+Inv-search security price listing money pieces trades book turnover seller buyer made count buys₀ sells₀ i₀ buys sells i =
     Searched seller (book .orders) count i buys × Searched buyer (book .orders) count i sells
 
 abbrev μ-search : tie.MeasureT-search
-μ-search security price row money pieces trades book turnover seller buyer made count buys₀ sells₀ i₀ buys sells i = count - i
+μ-search security price listing money pieces trades book turnover seller buyer made count buys₀ sells₀ i₀ buys sells i = count - i
 
 abbrev Inv-keep : tie.InvT-keep
-Inv-keep security price row money pieces trades book₀ turnover seller buyer made count i at to lots k₀ kept₀ book k kept =
+Inv-keep security price listing money pieces trades book₀ turnover seller buyer made count i at to lots k₀ kept₀ book k kept =
     Same book₀ book × Keeping (book₀ .orders) (book .orders) count k kept
 
 abbrev μ-keep : tie.MeasureT-keep
-μ-keep security price row money pieces trades book₀ turnover seller buyer made count i at to lots k₀ kept₀ book k kept = count - k
+μ-keep security price listing money pieces trades book₀ turnover seller buyer made count i at to lots k₀ kept₀ book k kept = count - k
 
 abbrev Inv-pairs : tie.InvT-pairs
-Inv-pairs security price row money₀ pieces₀ trades₀ book₀ turnover seller buyer made₀ money pieces trades book made =
+Inv-pairs security price listing money₀ pieces₀ trades₀ book₀ turnover seller buyer made₀ money pieces trades book made =
     (length (book .orders) ≡ maxWaiting)
     × ((limit : Kind) → seller ≡ counterparty Sell security limit → buyer ≡ counterparty Buy security limit
     → (r : Rules) (x : Phase)
-    → Meets r x row security (record { limit = limit; price = price }) book₀ money₀ pieces₀ → Counts book₀ trades₀
+    → Meets r x listing security (record { limit = limit; price = price }) book₀ money₀ pieces₀ → Counts book₀ trades₀
     → Going (record {
       r = r;
       x = x;
-      l = row;
+      l = listing;
       s = security;
       t = record { limit = limit; price = price };
       m = money₀;
@@ -63,7 +63,7 @@ Inv-pairs security price row money₀ pieces₀ trades₀ book₀ turnover selle
     }) money pieces trades book made)
 
 abbrev μ-pairs : tie.MeasureT-pairs
-μ-pairs security price row money₀ pieces₀ trades₀ book₀ turnover seller buyer made₀ money pieces trades book made = book .count
+μ-pairs security price listing money₀ pieces₀ trades₀ book₀ turnover seller buyer made₀ money pieces trades book made = book .count
 
 -- a turn of the pairing under the rules that the caller vouches for
 abbrev Turn : Type 0
@@ -78,7 +78,7 @@ origin b =
     record {
       r = b .pre .rules;
       x = b .pre .phase;
-      l = a .row;
+      l = a .listing;
       s = a .security;
       t = record { limit = a .limit; price = a .price };
       m = a .money .now;

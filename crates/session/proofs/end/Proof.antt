@@ -29,7 +29,7 @@ returns-2 c =
 
 end-pairing-requires : tie.Need-end-pairing-requires
 end-pairing-requires c κs =
-    let q = c .before .before .before .before in
+    let q = c .before .before .before in
     let b = q .before .before .before .before in
     endable (b .pre) (b .args .session) (b .args .trades .now) (q .before .before .if1 .left) (holds (q .before .ends-in .ensures) (q .if2 .left))
 
@@ -42,7 +42,7 @@ same-length c = search needs
 returns-3 : tie.Need-returns-3
 returns-3 c =
     let e = c .before .before .before in
-    let q = e .before .before .before .before .before in
+    let q = e .before .before .before .before in
     let b = q .before .before .before .before in
     rw (c .next-phase .ensures)
     (ended (b .pre) (b .args .session) (b .args .trades .now) (q .before .before .if1 .left) (holds (q .before .ends-in .ensures) (q .if2 .left))

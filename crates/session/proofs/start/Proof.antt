@@ -34,7 +34,7 @@ returns-2 c =
     (fails (q .starts-at .ensures) (c .before .if2 .taken)))
 
 free-all-requires : tie.Need-free-all-requires
-free-all-requires c κs = leavable (c .before .before .before .before .before .before .before .pre)
+free-all-requires c κs = leavable (c .before .before .before .before .before .before .pre)
 
 phase-of-requires : tie.Need-phase-of-requires
 phase-of-requires c κs = search needs
@@ -42,7 +42,7 @@ phase-of-requires c κs = search needs
 returns-3 : tie.Need-returns-3
 returns-3 c =
     let f = c .before in
-    let w = f .before .before .before .before in
+    let w = f .before .before .before in
     let q = w .before in
     let e = q .before in
     let b = e .before .before in

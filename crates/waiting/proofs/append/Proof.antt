@@ -1,4 +1,4 @@
--- `waiting::append` meets its contract: the need is blocked and the order waits, under all rules that have its row.
+-- `waiting::append` meets its contract: the need is blocked and the order waits, under all rules that have its listing.
 use Prim.Native.Nat.{_<_}
 use native.Mathlib.Omega.{arith}
 use Rattle.market.specs.Limits.{maxWaiting}

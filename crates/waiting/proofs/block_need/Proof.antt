@@ -20,7 +20,7 @@ block-requires : tie.Need-block-requires
 block-requires c κs =
     let e = c .before .before in
     let b = e .before .before .before in
-    blocks-as (b .args .row) (b .args .turnover) (b .args .o) (b .args .money .now) (b .args .pieces .now) Buy (e .enum-told .given .1) _ _
+    blocks-as (b .args .listing) (b .args .turnover) (b .args .o) (b .args .money .now) (b .args .pieces .now) Buy (e .enum-told .given .1) _ _
     (e .before .before .need-of .ensures) (c .cell-of .ensures) (b .pre)
 
 enum-told-2 : tie.Need-enum-told-2
@@ -33,7 +33,7 @@ block-requires-2 : tie.Need-block-requires-2
 block-requires-2 c κs =
     let e = c .before .before in
     let b = e .before .before .before in
-    blocks-as (b .args .row) (b .args .turnover) (b .args .o) (b .args .money .now) (b .args .pieces .now) Sell (e .enum-told2 .given .1) _ _
+    blocks-as (b .args .listing) (b .args .turnover) (b .args .o) (b .args .money .now) (b .args .pieces .now) Sell (e .enum-told2 .given .1) _ _
     (e .before .before .need-of .ensures) (c .cell-of2 .ensures) (b .pre)
 
 returns : tie.Need-returns
@@ -42,9 +42,9 @@ returns c =
     let e = p .before .before in
     let n = e .before .before in
     let b = n .before in (
-      c .block .ensures ∙ money-as (b .args .row) (b .args .turnover) (b .args .o) (b .args .money .now) (b .args .pieces .now) Buy
+      c .block .ensures ∙ money-as (b .args .listing) (b .args .turnover) (b .args .o) (b .args .money .now) (b .args .pieces .now) Buy
           (e .enum-told .given .1) _ _ (n .need-of .ensures) (p .cell-of .ensures) block,
-      pieces-as (b .args .row) (b .args .turnover) (b .args .o) (b .args .money .now) (b .args .pieces .now) Buy
+      pieces-as (b .args .listing) (b .args .turnover) (b .args .o) (b .args .money .now) (b .args .pieces .now) Buy
           (e .enum-told .given .1) _ _ (n .need-of .ensures) (p .cell-of .ensures) block,
     )
 
@@ -54,9 +54,9 @@ returns-2 c =
     let e = p .before .before in
     let n = e .before .before in
     let b = n .before in (
-      money-as (b .args .row) (b .args .turnover) (b .args .o) (b .args .money .now) (b .args .pieces .now) Sell
+      money-as (b .args .listing) (b .args .turnover) (b .args .o) (b .args .money .now) (b .args .pieces .now) Sell
           (e .enum-told2 .given .1) _ _ (n .need-of .ensures) (p .cell-of2 .ensures) block,
-      c .block2 .ensures ∙ pieces-as (b .args .row) (b .args .turnover) (b .args .o) (b .args .money .now) (b .args .pieces .now) Sell
+      c .block2 .ensures ∙ pieces-as (b .args .listing) (b .args .turnover) (b .args .o) (b .args .money .now) (b .args .pieces .now) Sell
           (e .enum-told2 .given .1) _ _ (n .need-of .ensures) (p .cell-of2 .ensures) block,
     )
 

@@ -36,7 +36,7 @@ returns c =
     let n = e .before .before in
     let b = n .before in
     ap (λ (x : ℕ). n .need-of .result ≤? x) (c .free-of .ensures)
-    ∙ covers-as (b .args .row) (b .args .turnover) (b .args .o) (b .args .money .now) (b .args .pieces .now) Buy
+    ∙ covers-as (b .args .listing) (b .args .turnover) (b .args .o) (b .args .money .now) (b .args .pieces .now) Buy
     (e .enum-told .given .1) _ _ (n .need-of .ensures) (p .cell-of .ensures)
 
 returns-2 : tie.Need-returns-2
@@ -46,7 +46,7 @@ returns-2 c =
     let n = e .before .before in
     let b = n .before in
     ap (λ (x : ℕ). n .need-of .result ≤? x) (c .free-of2 .ensures)
-    ∙ covers-as (b .args .row) (b .args .turnover) (b .args .o) (b .args .money .now) (b .args .pieces .now) Sell
+    ∙ covers-as (b .args .listing) (b .args .turnover) (b .args .o) (b .args .money .now) (b .args .pieces .now) Sell
     (e .enum-told2 .given .1) _ _ (n .need-of .ensures) (p .cell-of2 .ensures)
 
 pub covers-spec : {M : Type 1} → statement M

@@ -3,17 +3,35 @@
 use super::{Engine, Position};
 use crate::calls::{Side, Trade, WaitingKind, WaitingOrder};
 
+/// The rate at which a fee would be the whole sum.
+const WHOLE_RATE: u64 = 100_000;
+
 impl Engine {
     pub(super) fn currency(&self, security: usize) -> usize {
         self.market.securities[security].currency as usize
     }
 
+    fn pieces_in(&self, security: usize, lots: u64) -> u64 {
+        lots * self.market.securities[security].lot_size
+    }
+
+    /// What each side of a trade of this sum pays.
+    fn fee(&self, sum: u64) -> u64 {
+        self.market.rate * sum / WHOLE_RATE
+    }
+
+    /// What a buy of so many lots needs: their sum, and the fee on that sum as
+    /// a whole.
+    pub fn buy_need(&self, security: usize, price: u64, lots: u64) -> u64 {
+        let sum = price * self.pieces_in(security, lots);
+        sum + self.fee(sum)
+    }
+
     /// What an order's remaining lots need blocked.
     pub(super) fn need(&self, order: &WaitingOrder) -> u64 {
-        let pieces = order.lots * self.market.securities[order.security].lot_size;
         match order.side {
-            Side::Buy => pieces * self.own_price(order),
-            Side::Sell => pieces,
+            Side::Buy => self.buy_need(order.security, self.own_price(order), order.lots),
+            Side::Sell => self.pieces_in(order.security, order.lots),
         }
     }
 
@@ -48,8 +66,9 @@ impl Engine {
         position.free += need;
     }
 
-    /// Moves money and pieces of one trade. The buyer had blocked at his own
-    /// price; what the trade doesn't take of it becomes free again.
+    /// Moves money and pieces of one trade between orders as they stood before
+    /// it. The buyer's blocked money falls by the fall in what his order needs;
+    /// what sum and fee don't take of it becomes free again.
     pub(super) fn settle(
         &mut self,
         buy: &WaitingOrder,
@@ -59,14 +78,20 @@ impl Engine {
     ) -> Trade {
         let security = buy.security;
         let currency = self.currency(security);
-        let pieces = lots * self.market.securities[security].lot_size;
+        let pieces = self.pieces_in(security, lots);
         let sum = price * pieces;
-        let unblocked = self.own_price(buy) * pieces;
+        let fee = self.fee(sum);
+        let rest = WaitingOrder {
+            lots: buy.lots - lots,
+            ..*buy
+        };
+        let unblocked = self.need(buy) - self.need(&rest);
         let state = &mut self.state;
         let buyer_money = &mut state.money[buy.participant][currency];
         buyer_money.blocked -= unblocked;
-        buyer_money.free += unblocked - sum;
-        state.money[sell.participant][currency].free += sum;
+        buyer_money.free += unblocked - (sum + fee);
+        state.money[sell.participant][currency].free += sum - fee;
+        state.account[currency] += 2 * fee;
         state.pieces[sell.participant][security].blocked -= pieces;
         state.pieces[buy.participant][security].free += pieces;
         Trade {

@@ -105,13 +105,15 @@ impl Engine {
         ensure(position.free >= self.need(order), refusal::FREE_FOR_ORDER)
     }
 
-    pub(super) fn total_money(&self, currency: usize) -> u64 {
+    /// The market's account counts in.
+    pub fn total_money(&self, currency: usize) -> u64 {
         let known = &self.state.money[..self.market.participants];
         let sum = |position: Position| position.free + position.blocked;
-        known.iter().map(|row| sum(row[currency])).sum()
+        let held: u64 = known.iter().map(|row| sum(row[currency])).sum();
+        held + self.state.account[currency]
     }
 
-    pub(super) fn total_pieces(&self, security: usize) -> u64 {
+    pub fn total_pieces(&self, security: usize) -> u64 {
         let known = &self.state.pieces[..self.market.participants];
         let sum = |position: Position| position.free + position.blocked;
         known.iter().map(|row| sum(row[security])).sum()

@@ -3,7 +3,8 @@
 
 use super::{
     line_in_range, price_allowed, Engine, Position, CODE_LIMIT, CURRENCY_LIMIT, LOTS_LIMIT,
-    MONEY_LIMIT, PARTICIPANT_LIMIT, PIECES_LIMIT, PRICE_LIMIT, SECURITY_LIMIT, WAITING_LIMIT,
+    MONEY_LIMIT, PARTICIPANT_LIMIT, PIECES_LIMIT, PRICE_LIMIT, RATE_LIMIT, SECURITY_LIMIT,
+    WAITING_LIMIT,
 };
 use crate::calls::{Phase, Side, WaitingKind, WaitingOrder};
 
@@ -35,6 +36,7 @@ impl Engine {
                 .securities
                 .iter()
                 .all(|line| line_in_range(line, market.currencies))
+            && market.rate <= RATE_LIMIT
     }
 
     fn traded_sound(&self) -> bool {
@@ -98,13 +100,15 @@ impl Engine {
         needs
     }
 
+    /// The total begins with the market's account.
     fn money_sound(&self, currency: usize, needs: &Needs) -> bool {
-        let mut total = 0;
-        (0..self.market.participants).all(|participant| {
-            let position = self.state.money[participant][currency];
-            let need = needs.money[participant][currency];
-            position_sound(position, need, MONEY_LIMIT, &mut total)
-        })
+        let mut total = self.state.account[currency];
+        total <= MONEY_LIMIT
+            && (0..self.market.participants).all(|participant| {
+                let position = self.state.money[participant][currency];
+                let need = needs.money[participant][currency];
+                position_sound(position, need, MONEY_LIMIT, &mut total)
+            })
     }
 
     fn pieces_sound(&self, security: usize, needs: &Needs) -> bool {

@@ -132,6 +132,7 @@ impl Day {
             plan.movements,
             plan.spoiled,
             plan.phase_calls,
+            plan.tight_groups,
         ];
         match self.weighted(&weights) {
             0 => self.write_order(),
@@ -141,7 +142,8 @@ impl Day {
             4 => self.write_group(),
             5 => self.write_movement(),
             6 => self.write_spoiled(),
-            _ => self.write_phase_call(),
+            7 => self.write_phase_call(),
+            _ => self.write_tight_group(),
         }
     }
 
@@ -157,7 +159,19 @@ impl Day {
     }
 
     fn write_closing(&mut self) {
-        match self.weighted(&[70, 8, 8, 3, 2, 5, 1, self.plan.phase_calls]) {
+        let plan = self.plan;
+        let weights = [
+            70,
+            8,
+            8,
+            3,
+            2,
+            5,
+            1,
+            plan.phase_calls,
+            plan.tight_closing_orders,
+        ];
+        match self.weighted(&weights) {
             0 => {
                 let entry = self.closing_entry();
                 self.add(Call::EnterClosing(entry));
@@ -168,7 +182,8 @@ impl Day {
             4 => self.write_group(),
             5 => self.write_spoiled(),
             6 => self.add(Call::StartClosing),
-            _ => self.write_phase_call(),
+            7 => self.write_phase_call(),
+            _ => self.write_tight_closing_order(),
         }
     }
 

@@ -1,8 +1,20 @@
 //! Linked groups that a trial run accepts, or accepts in part.
 
 use super::day::Day;
+use super::single::free_and_need;
 use crate::calls::{Call, Entry, EntryKind, Member, Side, WaitingKind};
 use crate::engine::{Engine, LOTS_LIMIT};
+
+fn entry_of(participant: u64, member: &Member) -> Entry {
+    Entry {
+        participant,
+        side: member.side,
+        security: member.security,
+        price: member.price,
+        lots: member.lots,
+        kind: EntryKind::FillOrKill,
+    }
+}
 
 impl Day {
     pub(super) fn write_group(&mut self) {
@@ -38,18 +50,37 @@ impl Day {
         }
     }
 
+    /// Members of which one meets a reserve that hardly suffices, or lacks a
+    /// unit, on the state that its predecessors leave.
+    pub(super) fn write_tight_group(&mut self) {
+        let participant = self.participant();
+        let count = self.random.within(2, 4) as usize;
+        let tight = self.random.index(count);
+        let mut trial = self.engine.clone();
+        let mut members = Vec::new();
+        let mut free = 0;
+        for place in 0..count {
+            let before = trial.clone();
+            let (member, _) = self.member(participant, &mut trial);
+            if place == tight {
+                free = free_and_need(&before, &entry_of(participant, &member)).0;
+            }
+            members.push(member);
+        }
+        let entry = entry_of(participant, &members[tight]);
+        let (_, need) = free_and_need(&self.engine, &entry);
+        let call = Call::Group {
+            participant,
+            members,
+        };
+        self.squeeze(&entry, free, need, call);
+    }
+
     /// A member, and whether the trial run accepted it.
     pub(super) fn member(&mut self, participant: u64, trial: &mut Engine) -> (Member, bool) {
         let mut member = self.fitting_member(trial);
         for _ in 0..4 {
-            let entry = Entry {
-                participant,
-                side: member.side,
-                security: member.security,
-                price: member.price,
-                lots: member.lots,
-                kind: EntryKind::FillOrKill,
-            };
+            let entry = entry_of(participant, &member);
             if trial.enter(&entry, &mut Vec::new()).is_ok() {
                 return (member, true);
             }

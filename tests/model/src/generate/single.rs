@@ -7,6 +7,24 @@ use crate::engine::{Engine, LOTS_LIMIT, MONEY_LIMIT, PIECES_LIMIT, PRICE_LIMIT};
 /// How far prices lie from their base.
 const FURTHEST_STEPS: u64 = 4;
 
+/// What an order is asked for: the free amount, and what is to be blocked.
+pub(super) fn free_and_need(engine: &Engine, entry: &Entry) -> (u64, u64) {
+    let participant = entry.participant as usize;
+    let security = entry.security as usize;
+    let line = engine.securities()[security];
+    match entry.side {
+        Side::Buy => {
+            let position = engine.money(participant, line.currency as usize);
+            let need = engine.buy_need(security, entry.price, entry.lots);
+            (position.free, need)
+        }
+        Side::Sell => {
+            let position = engine.pieces(participant, security);
+            (position.free, entry.lots * line.lot_size)
+        }
+    }
+}
+
 impl Day {
     pub(super) fn participant(&mut self) -> u64 {
         self.random.below(self.engine.participants() as u64)
@@ -110,36 +128,45 @@ impl Day {
         engine.fitting_lots(entry.side, entry.security as usize, entry.price)
     }
 
-    /// Takes the reserve down to what the order needs, or to one less, enters
-    /// the order and mostly brings the reserve back.
     pub(super) fn write_squeeze(&mut self) {
         let entry = self.entry();
-        let participant = entry.participant as usize;
-        let security = entry.security as usize;
-        let line = self.engine.securities()[security];
-        let pieces = entry.lots * line.lot_size;
-        let (free, need, asset) = match entry.side {
-            Side::Buy => {
-                let position = self.engine.money(participant, line.currency as usize);
-                (position.free, pieces * entry.price, line.currency)
-            }
-            Side::Sell => {
-                let position = self.engine.pieces(participant, security);
-                (position.free, pieces, entry.security)
-            }
+        let (free, need) = free_and_need(&self.engine, &entry);
+        self.squeeze(&entry, free, need, Call::Enter(entry));
+    }
+
+    pub(super) fn write_tight_closing_order(&mut self) {
+        let closing = self.closing_entry();
+        let traded = self.engine.traded(closing.security as usize);
+        let entry = Entry {
+            participant: closing.participant,
+            side: closing.side,
+            security: closing.security,
+            price: traded.closing_price(),
+            lots: closing.lots,
+            kind: EntryKind::Kept,
         };
+        let (free, need) = free_and_need(&self.engine, &entry);
+        self.squeeze(&entry, free, need, Call::EnterClosing(closing));
+    }
+
+    /// Takes the reserve down to what the order needs, or to one less, makes
+    /// the call that enters it and mostly brings the reserve back.
+    pub(super) fn squeeze(&mut self, entry: &Entry, free: u64, need: u64, call: Call) {
         let amount = (free + self.random.below(2)).saturating_sub(need);
-        let movement = Movement {
+        let line = self.engine.securities()[entry.security as usize];
+        let movement = |asset| Movement {
             participant: entry.participant,
             asset,
             amount,
         };
+        let money = movement(line.currency);
+        let pieces = movement(entry.security);
         let (down, up) = match entry.side {
-            Side::Buy => (Call::MoneyDown(movement), Call::MoneyUp(movement)),
-            Side::Sell => (Call::PiecesDown(movement), Call::PiecesUp(movement)),
+            Side::Buy => (Call::MoneyDown(money), Call::MoneyUp(money)),
+            Side::Sell => (Call::PiecesDown(pieces), Call::PiecesUp(pieces)),
         };
         self.add(down);
-        self.add(Call::Enter(entry));
+        self.add(call);
         if self.random.chance(70) {
             self.add(up);
         }
@@ -210,17 +237,17 @@ impl Day {
         }
     }
 
-    /// A participant's free amount, the total over all, and its limit.
+    /// A participant's free amount, the whole total, and its limit.
     pub(super) fn amounts(&self, of_money: bool, participant: u64, asset: u64) -> (u64, u64, u64) {
-        let position = |participant| match of_money {
-            true => self.engine.money(participant, asset as usize),
-            false => self.engine.pieces(participant, asset as usize),
-        };
-        let total = (0..self.engine.participants())
-            .map(|participant| position(participant).free + position(participant).blocked)
-            .sum();
-        let limit = if of_money { MONEY_LIMIT } else { PIECES_LIMIT };
-        (position(participant as usize).free, total, limit)
+        let (participant, asset) = (participant as usize, asset as usize);
+        let engine = &self.engine;
+        if of_money {
+            let free = engine.money(participant, asset).free;
+            (free, engine.total_money(asset), MONEY_LIMIT)
+        } else {
+            let free = engine.pieces(participant, asset).free;
+            (free, engine.total_pieces(asset), PIECES_LIMIT)
+        }
     }
 
     /// Mostly in a security that has traded.

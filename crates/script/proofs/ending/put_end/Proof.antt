@@ -2,8 +2,7 @@
 use native.Mathlib.Omega.{arith}
 use borrow.Author.Needs.{needs}
 use borrow.Author.Tests.{not-false}
-use Rattle.printing.proofs.Lines.{worded-length}
-use Rattle.script.proofs.Lengths.{ends, positions-length}
+use Rattle.script.specs.Rooms.{Counts}
 use Rattle.script.proofs.ending.put_end.Statement.{statement}
 use Rattle.script.proofs.ending.put_end.Tie as tie
 
@@ -13,82 +12,32 @@ in-limits-requires c κs = search needs
 returns : tie.Need-returns
 returns c = search needs
 
-put-positions-requires : tie.Need-put-positions-requires
-put-positions-requires c κs =
-    let known = c .before .before .before .before .before .before .before .before .in-limits .ensures (not-false _ (c .before .before .before .before .before .before .before .if1 .left)) in
-    ((known .few-participants, known .few-currencies, known .few-securities), omega arith)
+known : (c : tie.Else1) →
+    let s = c .before .before .before .args .s in
+    Counts (s .participants) (s .currencies) (s .securities) (s .count)
+known c = c .before .in-limits .ensures (not-false _ (c .if1 .left))
 
-put-phase-requires : tie.Need-put-phase-requires
-put-phase-requires c κs =
-    let known = c .before .before .before .before .before .before .before .before .before .before .before .before .in-limits .ensures (not-false _ (c .before .before .before .before .before .before .before .before .before .before .before .if1 .left)) in
-    let balances =
-    ends (c .before .before .before .put-positions .ensures)
-    (positions-length _ _ _ _ _ (known .few-participants) (known .few-currencies) (known .few-securities)) in
-    omega arith
+put-day-requires : tie.Need-put-day-requires
+put-day-requires c κs =
+    let e = c .before in
+    (known e, omega (arith, e .before .before .before .pre))
 
-put-turnovers-requires : tie.Need-put-turnovers-requires
-put-turnovers-requires c κs =
-    let known = c .before .before .before .before .before .before .before .before .before .before .before .before .before .before .before .before .in-limits .ensures (not-false _ (c .before .before .before .before .before .before .before .before .before .before .before .before .before .before .before .if1 .left)) in
-    let balances =
-    ends (c .before .before .before .before .before .before .before .put-positions .ensures)
-    (positions-length _ _ _ _ _ (known .few-participants) (known .few-currencies) (known .few-securities)) in
-    let phase = c .before .before .before .put-phase .ensures in
-    (known .few-securities, omega arith)
-
-slice-aggregate-put-worded : tie.Need-slice-aggregate-put-worded
-slice-aggregate-put-worded c = search needs
-
-slice-aggregate-put-worded-2 : tie.Need-slice-aggregate-put-worded-2
-slice-aggregate-put-worded-2 c = search needs
-
-put-worded-requires : tie.Need-put-worded-requires
-put-worded-requires c κs =
-    let known = c .before .before .before .before .before .before .before .before .before .before .before .before .before .before .before .before .before .before .before .before .before .before .in-limits .ensures (not-false _ (c .before .before .before .before .before .before .before .before .before .before .before .before .before .before .before .before .before .before .before .before .before .if1 .left)) in
-    let balances =
-    ends (c .before .before .before .before .before .before .before .before .before .before .before .before .before .put-positions .ensures)
-    (positions-length _ _ _ _ _ (known .few-participants) (known .few-currencies) (known .few-securities)) in
-    let phase = c .before .before .before .before .before .before .before .before .before .put-phase .ensures in
-    let turnovers = c .before .before .before .before .before .put-turnovers .ensures in
-    omega arith
-
-put-orders-requires : tie.Need-put-orders-requires
-put-orders-requires c κs =
-    let known = c .before .before .before .before .before .before .before .before .before .before .before .before .before .before .before .before .before .before .before .before .before .before .before .before .before .before .in-limits .ensures (not-false _ (c .before .before .before .before .before .before .before .before .before .before .before .before .before .before .before .before .before .before .before .before .before .before .before .before .before .if1 .left)) in
-    let balances =
-    ends (c .before .before .before .before .before .before .before .before .before .before .before .before .before .before .before .before .before .put-positions .ensures)
-    (positions-length _ _ _ _ _ (known .few-participants) (known .few-currencies) (known .few-securities)) in
-    let phase = c .before .before .before .before .before .before .before .before .before .before .before .before .before .put-phase .ensures in
-    let turnovers = c .before .before .before .before .before .before .before .before .before .put-turnovers .ensures in
-    let codes = ends (c .before .before .before .put-worded .ensures) (worded-length _ _) in
-    (known .few-orders, omega arith)
+put-accounts-requires : tie.Need-put-accounts-requires
+put-accounts-requires c κs =
+    let d = c .before .before .before .before in
+    let e = d .before .before in
+    ((known e) .few-currencies, omega (arith, d .put-day .ensures .most, e .before .before .before .pre))
 
 same-length : tie.Need-same-length
 same-length c = search needs
 
 returns-2 : tie.Need-returns-2
 returns-2 c =
-    let known = c .before .before .before .before .before .before .before .before .before .before .before .before .before .before .before .before .before .before .before .before .before .before .before .before .before .before .before .before .before .in-limits .ensures (not-false _ (c .before .before .before .before .before .before .before .before .before .before .before .before .before .before .before .before .before .before .before .before .before .before .before .before .before .before .before .before .if1 .left)) in
-    let balances =
-    ends (c .before .before .before .before .before .before .before .before .before .before .before .before .before .before .before .before .before .before .before .before .put-positions .ensures)
-    (positions-length _ _ _ _ _ (known .few-participants) (known .few-currencies) (known .few-securities)) in
-    let phase = c .before .before .before .before .before .before .before .before .before .before .before .before .before .before .before .before .put-phase .ensures in
-    let turnovers = c .before .before .before .before .before .before .before .before .before .before .before .before .put-turnovers .ensures in
-    let codes = ends (c .before .before .before .before .before .before .put-worded .ensures) (worded-length _ _) in
-    let orders = c .before .before .put-orders .ensures in
-    record { size = search needs; most = omega arith }
+    let a = c .before .before in
+    let d = a .before .before .before .before .before in
+    record { size = search needs; most = omega (arith, d .put-day .ensures .most, a .put-accounts .ensures .most) }
 
 pub put-end-spec : {M : Type 1} → statement M
 put-end-spec =
     tie.close
-    (tie.spec
-    in-limits-requires
-    returns
-    put-positions-requires
-    put-phase-requires
-    put-turnovers-requires
-    slice-aggregate-put-worded
-    slice-aggregate-put-worded-2
-    put-worded-requires
-    put-orders-requires
-    same-length
-    returns-2)
+    (tie.spec in-limits-requires returns put-day-requires put-accounts-requires same-length returns-2)

@@ -5,7 +5,7 @@ use crate::calls::{
     refusal, refused, Call, ClosingEntry, Entry, EntryKind, Movement, Opening, Phase, SecurityLine,
     Side, Trade, WaitingKind,
 };
-use crate::engine::{Engine, CODE_LIMIT, LIST_LENGTH, MONEY_LIMIT, PIECES_LIMIT};
+use crate::engine::{Engine, CODE_LIMIT, LIST_LENGTH, MONEY_LIMIT, PIECES_LIMIT, RATE_LIMIT};
 
 fn entry(participant: u64, side: Side, price: u64, lots: u64) -> Call {
     Call::Enter(Entry {
@@ -39,6 +39,10 @@ fn run_into(engine: &mut Engine, call: &Call, trades: &mut Vec<Trade>) {
 
 /// Two securities of lot 10 and step 5, money for 0 and pieces for 1.
 fn opened() -> Engine {
+    opened_at(0)
+}
+
+fn opened_at(rate: u64) -> Engine {
     let line = SecurityLine {
         currency: 0,
         lot_size: 10,
@@ -48,6 +52,7 @@ fn opened() -> Engine {
         participants: 2,
         currencies: 1,
         securities: vec![line, line],
+        rate,
     };
     let mut engine = Engine::open(&opening, true).expect("the opening is in range");
     let reserves = [
@@ -60,7 +65,11 @@ fn opened() -> Engine {
 
 /// One trade, and two orders waiting.
 fn trading() -> Engine {
-    let mut engine = opened();
+    trading_at(0)
+}
+
+fn trading_at(rate: u64) -> Engine {
+    let mut engine = opened_at(rate);
     let calls = [
         entry(1, Side::Sell, 100, 10),
         entry(0, Side::Buy, 100, 12),
@@ -281,6 +290,52 @@ fn positions() {
     );
 }
 
+/// At 1 % the buy's 2 lots at 100 that wait need 2,020, and the account has
+/// 100 from each side of the trade of 10,000.
+#[test]
+fn tariff() {
+    fn taxed() -> Engine {
+        trading_at(RATE_LIMIT)
+    }
+    assert_eq!(taxed().state.money[0][0].blocked, 2_020);
+    assert_eq!(taxed().state.account[0], 200);
+    assert_each_unsound(
+        taxed,
+        &[
+            ("rate 1,001", |it| it.market.rate = 1_001),
+            ("rate near the greatest number", |it| {
+                it.market.rate = u64::MAX
+            }),
+            ("money blocked at another rate", |it| it.market.rate = 999),
+            ("money blocked without the fee", |it| {
+                it.state.money[0][0].blocked -= 20
+            }),
+            ("account over the limit", |it| {
+                it.state.account[0] = MONEY_LIMIT + 1
+            }),
+            ("account near the greatest number", |it| {
+                it.state.account[0] = u64::MAX
+            }),
+            ("total over its limit by the account", |it| {
+                it.state.money[1][0].free += MONEY_LIMIT - it.total_money(0) + 1
+            }),
+        ],
+    );
+}
+
+/// Up to the limit with the account in, and however much of it the account
+/// has: sound doesn't tie the account to the trades.
+#[test]
+fn the_account_up_to_the_limit() {
+    let mut engine = trading_at(RATE_LIMIT);
+    engine.state.account[0] += MONEY_LIMIT - engine.total_money(0);
+    assert!(engine.is_sound());
+    let more = engine.call(&Call::MoneyUp(movement(1, 1)), &mut Vec::new());
+    assert_eq!(more, Err(refused(refusal::TOTAL)));
+    engine.state.account[0] += 1;
+    assert!(!engine.is_sound());
+}
+
 #[test]
 fn traded_amounts() {
     assert_each_unsound(
@@ -307,6 +362,7 @@ fn unknown_places_are_not_read() {
     engine.state.money[0][1].blocked = 7;
     engine.state.pieces[0][2].blocked = 7;
     engine.state.traded[2].turnover = 7;
+    engine.state.account[1] = u64::MAX;
     assert!(engine.is_sound());
 }
 
