@@ -40,6 +40,7 @@ unfoldable pub firstWrong : Rules → ℕ → ℕ → ℕ
 firstWrong r zero s = 0
 firstWrong r (suc n) s = cond (rowSound (r .currencies) (row r s)) (firstWrong r n (suc s)) (suc s)
 
+-- that of all lines
 abbrev pub wrongLine : Rules → ℕ
 wrongLine r = firstWrong r (r .securities) 0
 
@@ -55,6 +56,7 @@ openingQuestions r =
 abbrev pub placeOf : Rules → ℕ → ℕ
 placeOf r number = cond (number =? 18) (wrongLine r) 0
 
+-- the opened day where the first "no" is 0, else the refusal with that number
 abbrev pub openingBy : Rules → ℕ → Result
 openingBy r zero = zeros (opened r)
 openingBy r (suc number) = refused (opened noRules) (suc number) (placeOf r (suc number))

@@ -52,7 +52,7 @@ unfoldable pub columnSound : ℕ → ℕ → ℕ → List ℕ → List ℕ → �
 columnSound participants limit first l needs c =
     allBelow participants (λ p. coveredAt first l needs (cell p c)) and totalAt participants l c ≤? limit
 
--- needs stand in one list: money at its cell, pieces as many cells further on as there are
+-- needs stand in one list: money at its cell, pieces behind all of these
 abbrev pub needCell : Asset → ℕ → ℕ
 needCell x j = ifMoney x 0 cells + j
 
