@@ -27,8 +27,8 @@ use Rattle.market.specs.Auction.{auctionTerms}
 use Rattle.market.specs.Step.{allQuestions, answerBy, effect, result}
 use Rattle.market.proofs.Logic.{within-high}
 use Rattle.market.proofs.Questions.{all-yes, first-yes, yes, yes-rest}
-use Rattle.market.proofs.Known.{closing-phase, collecting-phase}
-use Rattle.market.proofs.Entry.{enters-open, taken-either, taken-matched, taken-waits}
+use Rattle.market.proofs.Phases.{auction-phase, enters-open, session-phase}
+use Rattle.market.proofs.Entry.{taken-either, taken-matched, taken-waits}
 use Rattle.conservation.specs.Book.{Book}
 use Rattle.conservation.specs.SoundKept.{mostTrades}
 use Rattle.conservation.proofs.Good.{Good}
@@ -98,14 +98,14 @@ effect-few b d (closingOrder p side s lots) l g e = no-trades 0 l
 effect-few b d endSession l g e =
     let qs = questions d (length l) endSession in
     let y = all-yes qs tt e in
-    let ok = closing-paired b d g (closing-phase (d .phase) (yes 6 qs y)) in
+    let ok = closing-paired b d g (session-phase (d .phase) (yes 6 qs y)) in
     few (length (d .waiting)) ((pairsFrom closingTerms (d .rules .securities) 0 d) .trades) l (yes 2 qs y)
     (omega (arith, ok .count)) (omega (arith, g .standing .room))
 effect-few b d startCollecting l g e = no-trades 0 l
 effect-few b d endCollecting l g e =
     let qs = questions d (length l) endCollecting in
     let y = all-yes qs tt e in
-    let ok = auction-paired b d g (collecting-phase (d .phase) (yes 6 qs y)) in
+    let ok = auction-paired b d g (auction-phase (d .phase) (yes 6 qs y)) in
     few (length (d .waiting)) ((pairsFrom auctionTerms (d .rules .securities) 0 d) .trades) l (yes 2 qs y)
     (omega (arith, ok .count)) (omega (arith, g .standing .room))
 

@@ -21,7 +21,7 @@ use Rattle.market.specs.Entry.{admitted, entered, finished}
 use Rattle.market.specs.Linked.{Group, memberBy, members, passed, stopped, withMember}
 use Rattle.market.proofs.Lists.{sum-append}
 use Rattle.market.proofs.Questions.{all-yes, yes}
-use Rattle.market.proofs.Known.{open-phase}
+use Rattle.market.proofs.Phases.{whole-open}
 use Rattle.market.proofs.Waiting.{Fresh}
 use Rattle.market.proofs.Codes.{numbered-fresh}
 use Rattle.conservation.specs.Book.{Book, beforeTrades, feedTrades, withOrders}
@@ -102,7 +102,7 @@ members-ok {U} {r} (m ∷ ms) at d p b g = go (firstNo (orderQuestions d p m Fil
     go zero e again =
         let qs = orderQuestions d p m FillOrKill in
         let y = all-yes qs tt e in
-        let ok = enter-ok b d p m FillOrKill g (open-phase (d .phase) (yes 6 qs y)) e in
+        let ok = enter-ok b d p m FillOrKill g (whole-open (d .phase) (yes 6 qs y)) e in
         let fits = leb-true (m .lots) (fitting (entryOf d p m) (d .waiting)) (yes 15 qs y) in
         let same : orderIn b (codesOf d p + 1) p m FillOrKill ≡ b = ap (withOrders b) (append-nil (b .waiting)) in
         let good : Good U r (feedTrades r b s) d1 =

@@ -2,7 +2,7 @@
 use Prim.Native.Nat.{ℕ}
 use mathlib.Core.Path.{_≡_, refl, ap, sym, _∙_}
 use mathlib.Core.List.{[], _∷_, _++_}
-use mathlib.Core.Bool.{false}
+use mathlib.Core.Bool.{Bool, true, false}
 use Rattle.market.specs.declared.Order.{Order}
 use Rattle.market.specs.declared.Phase.{Phase}
 use Rattle.market.specs.declared.Phase.the-variants.{Closing, Collecting, Open}
@@ -12,7 +12,7 @@ use Rattle.market.specs.declared.Ticket.{Ticket}
 use Rattle.market.specs.declared.TimeInForce.the-variants.{Kept}
 use Rattle.market.specs.Day.{Day}
 use Rattle.market.specs.Positions.{blockFor}
-use Rattle.market.specs.Sound.{isOpen}
+use Rattle.market.specs.Sound.{isClosing, isCollecting}
 use Rattle.market.specs.Calls.{closingOf, entryOf}
 use Rattle.market.specs.Questions.{closingQuestions, firstNo, orderQuestions}
 use Rattle.market.specs.Entry.{admitted, placed}
@@ -21,7 +21,7 @@ use Rattle.market.specs.Closing.{closingTerms}
 use Rattle.market.specs.Auction.{auctionTerms}
 use Rattle.market.proofs.Logic.{never}
 use Rattle.market.proofs.Questions.{all-yes, yes}
-use Rattle.market.proofs.Known.{closing-phase}
+use Rattle.market.proofs.Phases.{closing-phase}
 use Rattle.invariant.specs.Standing.{Placeable}
 use Rattle.invariant.proofs.Pairing.{auction-fair, closing-fair}
 use Rattle.invariant.proofs.Placed.{closing-placeable, kept-placeable, placed-standing}
@@ -47,9 +47,9 @@ placed-good b d o g shut a =
       uncrossed = λ u h. absurd (shut h);
     }
 
--- a phase y is not open
-not-open : (x y : Phase) → isOpen y ≡ false → x ≡ y → x ≡ Open → ⊥
-not-open x y e a b = never (sym e ∙ ap isOpen (sym a) ∙ ap isOpen b)
+-- a phase that passes a test which open fails
+not-open : (f : Phase → Bool) (x : Phase) → f Open ≡ false → f x ≡ true → x ≡ Open → ⊥
+not-open f x a b e = never (sym a ∙ ap f (sym e) ∙ b)
 
 pub closingOrder-good : {U : Type 0} {r : Rules} (b : Book) (d : Day) (p : ℕ) (x : Side) (s n : ℕ) → Good U r b d
     → firstNo (closingQuestions d p x s n) ≡ 0
@@ -59,7 +59,7 @@ unfolding closingQuestions
 closingOrder-good b d p x s n g e =
     let qs = closingQuestions d p x s n in
     placed-good b d (closingOf d p x s n) g
-    (not-open (d .phase) Closing refl (closing-phase (d .phase) (yes 6 qs (all-yes qs tt e))))
+    (not-open isClosing (d .phase) refl (ap isClosing (closing-phase (d .phase) (yes 6 qs (all-yes qs tt e)))))
     (closing-placeable d p x s n e)
 
 -- a kept order while collecting
@@ -67,18 +67,18 @@ pub collected-good : {U : Type 0} {r : Rules} (b : Book) (d : Day) (p : ℕ) (m 
     → d .phase ≡ Collecting → firstNo (orderQuestions d p m Kept) ≡ 0
     → Good U r (withOrders b (b .waiting ++ (shown (entryOf d p m) ∷ []))) ((placed d (entryOf d p m)) .day)
 collected-good b d p m g phase e =
-    placed-good b d (entryOf d p m) g (not-open (d .phase) Collecting refl phase) (kept-placeable d p m e)
+    placed-good b d (entryOf d p m) g (not-open isCollecting (d .phase) refl (ap isCollecting phase)) (kept-placeable d p m e)
 
 -- the pairing at the session's end
 pub closing-paired : {U : Type 0} {r : Rules} (b : Book) (d : Day) → Good U r b d → d .phase ≡ Closing
     → PairedOk U r b d (pairsFrom closingTerms (d .rules .securities) 0 d)
 closing-paired b d g e =
-    pairsFrom-ok closingTerms Closing (not-open Closing Closing refl refl) (λ b′ d′ s g′ e′. closing-fair d′ s (g′ .standing) e′)
+    pairsFrom-ok closingTerms Closing (not-open isClosing Closing refl refl) (λ b′ d′ s g′ e′. closing-fair d′ s (g′ .standing) e′)
     (d .rules .securities) 0 b d g e
 
 -- and at the end of collecting
 pub auction-paired : {U : Type 0} {r : Rules} (b : Book) (d : Day) → Good U r b d → d .phase ≡ Collecting
     → PairedOk U r b d (pairsFrom auctionTerms (d .rules .securities) 0 d)
 auction-paired b d g e =
-    pairsFrom-ok auctionTerms Collecting (not-open Collecting Collecting refl refl) (λ b′ d′ s g′ e′. auction-fair d′ s)
+    pairsFrom-ok auctionTerms Collecting (not-open isCollecting Collecting refl refl) (λ b′ d′ s g′ e′. auction-fair d′ s)
     (d .rules .securities) 0 b d g e

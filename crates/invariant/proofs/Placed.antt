@@ -1,7 +1,7 @@
 -- An order that only waits: what its questions tell of it, and that the day it is placed on stays sound.
 use Prim.Native.Nat.{ℕ, _+_}
 use native.Mathlib.Omega.{arith}
-use mathlib.Core.Path.{_≡_, refl}
+use mathlib.Core.Path.{_≡_, refl, ap}
 use mathlib.Core.List.{[], _∷_, _++_}
 use lib.ListN.{length, length-append}
 use borrow.Author.Tests.{ltb-true}
@@ -13,6 +13,7 @@ use Rattle.market.specs.Limits.{maxLots, maxWaiting}
 use Rattle.market.specs.Day.{Day}
 use Rattle.market.specs.Needs.{needAt}
 use Rattle.market.specs.Positions.{blockFor}
+use Rattle.market.specs.Sound.{isClosing}
 use Rattle.market.specs.Calls.{closingOf, entryOf}
 use Rattle.market.specs.Questions.{closingQuestions, firstNo, orderQuestions}
 use Rattle.market.specs.Entry.{admitted, placed}
@@ -20,6 +21,7 @@ use Rattle.market.proofs.Logic.{both, within-high, within-low}
 use Rattle.market.proofs.Lists.{all-append, sum-append}
 use Rattle.market.proofs.Questions.{all-yes, yes}
 use Rattle.market.proofs.Known.{OrderOk}
+use Rattle.market.proofs.Phases.{closing-phase, kept-waits}
 use Rattle.market.proofs.Codes.{codesOk-next, given-next, numbered-enter}
 use Rattle.invariant.specs.Standing.{KindOk, Placeable, Standing}
 use Rattle.invariant.proofs.Backed.{block-backed, relist}
@@ -38,7 +40,7 @@ closing-placeable d p x s n e =
         lots = within-low 1 maxLots n (yes 7 qs y);
         top = within-high 1 maxLots n (yes 7 qs y);
       };
-      kind = both (yes 6 qs y) (yes 11 qs y);
+      kind = both (ap isClosing (closing-phase (d .phase) (yes 6 qs y))) (yes 11 qs y);
       room = yes 12 qs y;
       left = yes 13 qs y;
       covers = yes 14 qs y;
@@ -60,7 +62,7 @@ kept-placeable d p m e =
         lots = within-low 1 maxLots (m .lots) (yes 7 qs y);
         top = within-high 1 maxLots (m .lots) (yes 7 qs y);
       };
-      kind = both (yes 6 qs y) (yes 8 qs y);
+      kind = both (kept-waits (d .phase) (yes 6 qs y)) (yes 8 qs y);
       room = yes 12 qs y;
       left = yes 13 qs y;
       covers = yes 14 qs y;

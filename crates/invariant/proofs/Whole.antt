@@ -16,7 +16,8 @@ use Rattle.market.specs.Matching.{Filled, fill}
 use Rattle.market.specs.Questions.{firstNo, orderQuestions}
 use Rattle.market.specs.Entry.{admitted, entered}
 use Rattle.market.proofs.Questions.{all-yes, yes}
-use Rattle.market.proofs.Known.{OrderOk, open-phase}
+use Rattle.market.proofs.Known.{OrderOk}
+use Rattle.market.proofs.Phases.{whole-open}
 use Rattle.market.proofs.Turnovers.{limit-bound}
 use Rattle.invariant.specs.Standing.{KindOk, Standing}
 use Rattle.invariant.proofs.Flight.{fill-few, fill-flight}
@@ -42,7 +43,7 @@ module _ (d : Day) (p : ℕ) (m : Ticket) (g : Standing d) (e : firstNo (orderQu
   unfolding orderQuestions
   isOpen =
       let qs = orderQuestions d p m FillOrKill in
-      open-phase (d .phase) (yes 6 qs (all-yes qs tt e))
+      whole-open (d .phase) (yes 6 qs (all-yes qs tt e))
 
   pub whole-standing : Standing ((entered d o FillOrKill) .day)
   unfolding entered

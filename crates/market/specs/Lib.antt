@@ -11,6 +11,7 @@ pub mod TradeList
 pub mod Execution
 pub mod Answers
 pub mod Calls
+pub mod Phases
 pub mod Matching
 pub mod Questions
 pub mod Entry

@@ -5,7 +5,6 @@ ghost use Rattle.market.specs.declared.Answer.the-variants.{Done, Refuse
 ghost use Rattle.market.specs.Limits.{limitsInOrder};
 ghost use Rattle.market.specs.View.{dayOf, view};
 ghost use Rattle.market.specs.Parts.{bookOf, rulesOf};
-ghost use Rattle.market.specs.Sound.{isClosing, isCollecting, isOpen, keptIn};
 
 pub const MAX_PARTICIPANTS: u64 = 16;
 
@@ -95,6 +94,18 @@ pub enum TimeInForce {
     Kept,
     ImmediateOrCancel,
     FillOrKill,
+}
+
+// The calls that question 6 is asked of, each kind of order a call of its own; a member of a group is a whole-or-nothing order.
+pub enum Access {
+    Kept,
+    ImmediateOrCancel,
+    FillOrKill,
+    ClosingOrder,
+    StartCollecting,
+    EndCollecting,
+    StartClosing,
+    EndSession,
 }
 
 pub struct Security {
@@ -216,51 +227,6 @@ pub struct Carried {
 pub struct Outcome {
     pub answer: Answer,
     pub state: State,
-}
-
-pub fn is_open(phase: Phase) -> bool
-    ensures { λ r. ⌜ r ≡ isOpen phase ⌝ }
-{
-    match phase {
-        Phase::Open => true,
-        Phase::Collecting => false,
-        Phase::Closing => false,
-        Phase::Closed => false,
-    }
-}
-
-pub fn is_collecting(phase: Phase) -> bool
-    ensures { λ r. ⌜ r ≡ isCollecting phase ⌝ }
-{
-    match phase {
-        Phase::Open => false,
-        Phase::Collecting => true,
-        Phase::Closing => false,
-        Phase::Closed => false,
-    }
-}
-
-pub fn is_closing(phase: Phase) -> bool
-    ensures { λ r. ⌜ r ≡ isClosing phase ⌝ }
-{
-    match phase {
-        Phase::Open => false,
-        Phase::Collecting => false,
-        Phase::Closing => true,
-        Phase::Closed => false,
-    }
-}
-
-// May kept orders wait?
-pub fn kept_in(phase: Phase) -> bool
-    ensures { λ r. ⌜ r ≡ keptIn phase ⌝ }
-{
-    match phase {
-        Phase::Open => true,
-        Phase::Collecting => true,
-        Phase::Closing => false,
-        Phase::Closed => false,
-    }
 }
 
 // The parts of a state that its calls read, besides positions and phase.

@@ -18,9 +18,10 @@ use Rattle.market.specs.Day.{Day}
 use Rattle.market.specs.Parts.{listing}
 use Rattle.market.specs.View.{dayOf}
 use Rattle.market.specs.Sound.{isCollecting}
-use Rattle.market.specs.Questions.{Question, ask, entersIn, entryQuestions, firstNo, orderQuestions}
+use Rattle.market.specs.Phases.{admits, orderAccess}
+use Rattle.market.specs.Questions.{Question, ask, entryQuestions, firstNo, orderQuestions}
 use Rattle.market.proofs.Questions.{AllYes, all-yes, hides, passes, yes}
-use Rattle.market.proofs.Entry.{enters-kept, enters-open, open-matched}
+use Rattle.market.proofs.Phases.{enters-kept, enters-open, whole-open}
 use Rattle.invariant.specs.Standing.{Standing}
 use Rattle.invariant.proofs.Placed.{kept-placeable}
 use Rattle.matching.specs.Filling.{openDay}
@@ -81,7 +82,7 @@ module _ (r : Rules) (x : Phase) (m k : List ℕ) (b : OrderBook) (standing : St
             standing .backed .rulesOk .securities,
           )
 
-      enters : entersIn f x ≡ true
+      enters : admits x (orderAccess f) ≡ true
       unfolding orderQuestions
       enters = yes 6 (orderQuestions d p t f) yeses
 
@@ -117,4 +118,5 @@ module _ (r : Rules) (x : Phase) (m k : List ℕ) (b : OrderBook) (standing : St
 
     -- a whole-or-nothing order enters only while open
     pub whole-matched : f ≡ FillOrKill → orderNo d p t f ≡ 0 → isCollecting x ≡ false
-    whole-matched e none = open-matched x (subst (λ (z : TimeInForce). entersIn z x ≡ true) e (enters none))
+    whole-matched e none =
+        ap isCollecting (whole-open x (subst (λ (z : TimeInForce). admits x (orderAccess z) ≡ true) e (enters none)))

@@ -25,7 +25,8 @@ use Rattle.market.specs.Entry.{entered, placed, taken}
 use Rattle.market.specs.Step.{effect}
 use Rattle.market.specs.Parts.{Carries, Ready, listing}
 use Rattle.market.proofs.Questions.{all-yes, yes}
-use Rattle.market.proofs.Entry.{enters-kept, taken-matched, taken-waits}
+use Rattle.market.proofs.Phases.{enters-kept}
+use Rattle.market.proofs.Entry.{taken-matched, taken-waits}
 use Rattle.market.proofs.Parts.{carries-accept, carries-refuse}
 use Rattle.invariant.specs.Standing.{Standing}
 use Rattle.invariant.proofs.Sound.{ready-standing}

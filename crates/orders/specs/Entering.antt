@@ -24,7 +24,8 @@ use Rattle.market.specs.TradeList.{written}
 use Rattle.market.specs.Answers.{Result}
 use Rattle.market.specs.Calls.{entryOf}
 use Rattle.market.specs.Matching.{fitting}
-use Rattle.market.specs.Questions.{Question, ask, entersIn, entryQuestions, firstNo, orderQuestions}
+use Rattle.market.specs.Phases.{admits, orderAccess}
+use Rattle.market.specs.Questions.{Question, ask, entryQuestions, firstNo, orderQuestions}
 use Rattle.market.specs.Entry.{entered}
 use Rattle.market.specs.Parts.{ListingOk, listing}
 use Rattle.market.proofs.Known.{RulesOk}
@@ -63,7 +64,7 @@ abbrev pub earlyQuestions : ℕ → ℕ → Phase → ℕ → Ticket → TimeInF
 earlyQuestions participants securities x p m k =
     ask 4 (known p participants) ∷
     ask 5 (known (m .security) securities) ∷
-    ask 6 (entersIn k x) ∷
+    ask 6 (admits x (orderAccess k)) ∷
     ask 7 (lotsSound (m .lots)) ∷ []
 
 -- those that read listing and turnover of the order's security, its participant's positions, and counts

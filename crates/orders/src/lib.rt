@@ -2,6 +2,7 @@
 // `enter` then moves lent positions and hands the order book on. `listing` and `turnover` are those of the order's security.
 use amounts::price_sound;
 use amounts::within;
+use market::Access;
 use market::Answer;
 use market::Carried;
 use market::Kind;
@@ -18,13 +19,12 @@ use market::Ticket;
 use market::TimeInForce;
 use market::Turnover;
 use market::declined;
-use market::is_collecting;
-use market::is_open;
-use market::kept_in;
 use market::registered;
 use matching::fill;
 use matching::fitting_lots;
 use matching::with_lots;
+use phases::admits;
+use phases::is_collecting;
 use waiting::append;
 use waiting::block_need;
 use waiting::covers;
@@ -36,7 +36,8 @@ ghost use Prim.Native.Nat.{_≤_};
 ghost use Rattle.market.specs.Limits.{maxCodes, maxWaiting};
 ghost use Rattle.market.specs.Waiting.{indexOf};
 ghost use Rattle.market.specs.Calls.{cancel as cancelCall, order as orderCall};
-ghost use Rattle.market.specs.Questions.{entersIn, firstNo};
+ghost use Rattle.market.specs.Phases.{orderAccess};
+ghost use Rattle.market.specs.Questions.{firstNo};
 ghost use Rattle.market.specs.Entry.{leftWaiting};
 ghost use Rattle.market.specs.Parts.{Carries, Ready};
 ghost use Rattle.matching.specs.Orders.{FewLots, waitingIn};
@@ -89,14 +90,14 @@ pub fn is_fillable(book: OrderBook, force: TimeInForce, entry: Order) -> bool
     }
 }
 
-// Question 6 of an order.
-fn enters_in(force: TimeInForce, phase: Phase) -> bool
-    ensures { λ r. ⌜ r ≡ entersIn force phase ⌝ }
+// An order of this kind, as question 6 is asked of it.
+fn order_access(force: TimeInForce) -> Access
+    ensures { λ r. ⌜ r ≡ orderAccess force ⌝ }
 {
     match force {
-        TimeInForce::Kept => kept_in(phase),
-        TimeInForce::ImmediateOrCancel => is_open(phase),
-        TimeInForce::FillOrKill => is_open(phase),
+        TimeInForce::Kept => Access::Kept,
+        TimeInForce::ImmediateOrCancel => Access::ImmediateOrCancel,
+        TimeInForce::FillOrKill => Access::FillOrKill,
     }
 }
 
@@ -117,7 +118,7 @@ fn early_no(
     if securities <= member.security {
         return 5;
     }
-    if !enters_in(force, phase) {
+    if !admits(phase, order_access(force)) {
         return 6;
     }
     if !within(1, MAX_LOTS, member.lots) {

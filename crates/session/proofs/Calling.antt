@@ -17,7 +17,7 @@ use Rattle.market.specs.declared.Session.the-variants.{Closing, Collecting}
 use Rattle.market.specs.Limits.{lentAtLeast}
 use Rattle.market.specs.Day.{Day, withPhase}
 use Rattle.market.specs.View.{dayOf}
-use Rattle.market.specs.Sound.{isOpen}
+use Rattle.market.specs.Phases.{admits}
 use Rattle.market.specs.Codes.{codesOf, given}
 use Rattle.market.specs.Waiting.{allLeave, leaveFirst}
 use Rattle.market.specs.TradeList.{written}
@@ -26,18 +26,19 @@ use Rattle.market.specs.Questions.{ask, enoughLent, firstNo, questions}
 use Rattle.market.specs.Pairing.{endResult, pairsFrom}
 use Rattle.market.specs.Step.{effect}
 use Rattle.market.specs.Parts.{Carries, Ready, endOf, startOf}
-use Rattle.market.proofs.Known.{closing-phase, collecting-phase}
+use Rattle.market.proofs.Phases.{auction-phase, session-phase}
 use Rattle.market.proofs.Codes.{numbered-none}
 use Rattle.market.proofs.Parts.{carries-accept, carries-refuse}
 use Rattle.invariant.specs.Standing.{Standing}
 use Rattle.invariant.proofs.Sound.{ready-standing}
 use Rattle.pairing.specs.Leaving.{AllLeft, Leavable, emptied}
 use Rattle.pairing.proofs.Leaving.{count-room}
-use Rattle.session.specs.Sessions.{Endable, Ends, EndsAs, endsIn, nextPhase, phaseOf, startsAt, termsOf}
+use Rattle.session.specs.Sessions.{Endable, Ends, EndsAs, endAccess, nextPhase, phaseOf, startAccess}
+use Rattle.session.specs.Sessions.{startsAt, termsOf}
 
 -- the questions of an end, what it does, and its phase
 end-asks : (z : Session) (d : Day) (n : ℕ)
-    → firstNo (questions d n (endOf z)) ≡ firstNo (ask 2 (enoughLent n) ∷ ask 6 (endsIn z (d .phase)) ∷ [])
+    → firstNo (questions d n (endOf z)) ≡ firstNo (ask 2 (enoughLent n) ∷ ask 6 (admits (d .phase) (endAccess z)) ∷ [])
 unfolding questions
 end-asks Closing d n = refl
 end-asks Collecting d n = refl
@@ -50,13 +51,14 @@ unfolding effect
 end-effect Closing d = refl
 end-effect Collecting d = refl
 
-ends-phase : (z : Session) (x : Phase) → endsIn z x ≡ true → x ≡ phaseOf z
-ends-phase Closing x e = closing-phase x e
-ends-phase Collecting x e = collecting-phase x e
+ends-phase : (z : Session) (x : Phase) → admits x (endAccess z) ≡ true → x ≡ phaseOf z
+ends-phase Closing x e = session-phase x e
+ends-phase Collecting x e = auction-phase x e
 
 -- the questions of a start, and that all orders leave: before an auction none waits
 start-asks : (z : Session) (d : Day) (n : ℕ)
-    → firstNo (questions d n (startOf z)) ≡ firstNo (ask 6 (isOpen (d .phase)) ∷ ask 21 (startsAt z (d .codes)) ∷ [])
+    → firstNo (questions d n (startOf z))
+    ≡ firstNo (ask 6 (admits (d .phase) (startAccess z)) ∷ ask 21 (startsAt z (d .codes)) ∷ [])
 unfolding questions
 start-asks Closing d n = refl
 start-asks Collecting d n = refl
@@ -82,16 +84,16 @@ module _ {r : Rules} {x : Phase} {m k : List ℕ} {b : OrderBook} (g : Ready r x
 
   -- the start of a session
   module _ (z : Session) where
-    pub start-refused : isOpen x ≡ false
+    pub start-refused : admits x (startAccess z) ≡ false
         → Carries r x m k b [] (startOf z) m k [] (record { answer = Refused 6 0; phase = x; book = b })
     start-refused e =
         carries-refuse r x m k b [] (startOf z) (g .sound) 6 (omega arith) (start-asks z d 0 ∙ rw e)
 
-    module _ (opens : isOpen x ≡ true) where
+    module _ (admitted : admits x (startAccess z) ≡ true) where
       pub start-late : startsAt z (b .codes) ≡ false
           → Carries r x m k b [] (startOf z) m k [] (record { answer = Refused 21 0; phase = x; book = b })
       start-late e =
-          carries-refuse r x m k b [] (startOf z) (g .sound) 21 (omega arith) (start-asks z d 0 ∙ rw (opens, e))
+          carries-refuse r x m k b [] (startOf z) (g .sound) 21 (omega arith) (start-asks z d 0 ∙ rw (admitted, e))
 
       pub started : {m′ k′ : List ℕ} → startsAt z (b .codes) ≡ true → AllLeft r b m k m′ k′
           → Carries r x m k b [] (startOf z) m′ k′ []
@@ -99,7 +101,7 @@ module _ {r : Rules} {x : Phase} {m k : List ℕ} {b : OrderBook} (g : Ready r x
       started {m′} {k′} e left =
           let st = ready-standing g in
           let same = start-effect z d st e in
-          carries-accept r x m k b [] (startOf z) (g .sound) m′ k′ [] _ (start-asks z d 0 ∙ rw (opens, e))
+          carries-accept r x m k b [] (startOf z) (g .sound) m′ k′ [] _ (start-asks z d 0 ∙ rw (admitted, e))
           (sym (ap (λ (w : Result). w .answer) same))
           (left x (phaseOf z) st ∙ sym (ap (λ (w : Result). w .day) same))
           (sym (ap (λ (w : Result). written (w .trades) []) same))
@@ -113,13 +115,13 @@ module _ {r : Rules} {x : Phase} {m k : List ℕ} {b : OrderBook} (g : Ready r x
         (end-asks z d (length v) ∙ rw (lt-leb lentAtLeast (length v) h))
 
     module _ (lent : lentAtLeast ≤ length v) where
-      pub end-refused : endsIn z x ≡ false
+      pub end-refused : admits x (endAccess z) ≡ false
           → Carries r x m k b v (endOf z) m k v (record { answer = Refused 6 0; phase = x; book = b })
       end-refused e =
           carries-refuse r x m k b v (endOf z) (g .sound) 6 (omega arith)
           (end-asks z d (length v) ∙ rw (le-leb lentAtLeast (length v) lent, e))
 
-      module _ (ends : endsIn z x ≡ true) where
+      module _ (ends : admits x (endAccess z) ≡ true) where
         here : x ≡ phaseOf z
         here = ends-phase z x ends
 

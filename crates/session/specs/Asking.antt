@@ -2,6 +2,7 @@
 use Prim.Native.Nat.{ℕ, _+_, _≤_, _<_}
 use mathlib.Core.Path.{_≡_}
 use mathlib.Core.List.{List, [], _∷_}
+use Rattle.market.specs.declared.Access.the-variants.{ClosingOrder}
 use Rattle.market.specs.declared.Kind.the-variants as kind
 use Rattle.market.specs.declared.Order.{Order}
 use Rattle.market.specs.declared.OrderBook.{OrderBook}
@@ -15,7 +16,8 @@ use Rattle.market.specs.declared.Rules.{Rules}
 use Rattle.market.specs.Day.{turnoverAt}
 use Rattle.market.specs.View.{dayOf}
 use Rattle.market.specs.Needs.{closingPrice}
-use Rattle.market.specs.Sound.{hasTraded, isClosing, lotsSound}
+use Rattle.market.specs.Sound.{hasTraded, lotsSound}
+use Rattle.market.specs.Phases.{admits}
 use Rattle.market.specs.Questions.{Question, ask, closingQuestions, firstNo}
 use Rattle.market.proofs.Known.{RulesOk}
 use Rattle.waiting.specs.Claims.{coveredBy}
@@ -36,7 +38,7 @@ abbrev pub earlyClosing : ℕ → ℕ → Phase → (p s n : ℕ) → List Quest
 earlyClosing participants securities x p s n =
     ask 4 (known p participants) ∷
     ask 5 (known s securities) ∷
-    ask 6 (isClosing x) ∷
+    ask 6 (admits x ClosingOrder) ∷
     ask 7 (lotsSound n) ∷ []
 
 -- those that read listing and turnover of the order's security, its participant's positions, and counts

@@ -4,6 +4,8 @@ use mathlib.Core.Path.{_≡_}
 use mathlib.Core.List.{List}
 use mathlib.Core.Bool.{Bool, true}
 use lib.ListN.{length}
+use Rattle.market.specs.declared.Access.{Access}
+use Rattle.market.specs.declared.Access.the-variants.{EndCollecting, EndSession, StartClosing, StartCollecting}
 use Rattle.market.specs.declared.Answer.the-variants.{Done}
 use Rattle.market.specs.declared.Kind.the-variants as kind
 use Rattle.market.specs.declared.OrderBook.{OrderBook}
@@ -17,7 +19,6 @@ use Rattle.market.specs.Tests.{_=?_}
 use Rattle.market.specs.Day.{Day, turnoverAt}
 use Rattle.market.specs.View.{dayOf}
 use Rattle.market.specs.Needs.{closingPrice}
-use Rattle.market.specs.Sound.{isClosing, isCollecting}
 use Rattle.market.specs.TradeList.{written}
 use Rattle.market.specs.Answers.{Result}
 use Rattle.market.specs.Pairing.{Paired, Terms, endResult, pairsFrom}
@@ -27,7 +28,7 @@ use Rattle.invariant.specs.Standing.{Standing}
 use Rattle.matching.specs.Orders.{waitingIn}
 use Rattle.pairing.specs.Pairing.{PairedAs}
 
--- question 21 of its start, the phase that it is, whether it ends in a phase, and the phase after it
+-- question 21 of its start, the phase that it is, what question 6 is asked of at its start and its end, the phase after it
 abbrev pub startsAt : Session → ℕ → Bool
 startsAt Closing codes = true
 startsAt Collecting codes = codes =? 0
@@ -36,9 +37,13 @@ abbrev pub phaseOf : Session → Phase
 phaseOf Closing = phase.Closing
 phaseOf Collecting = phase.Collecting
 
-abbrev pub endsIn : Session → Phase → Bool
-endsIn Closing x = isClosing x
-endsIn Collecting x = isCollecting x
+abbrev pub startAccess : Session → Access
+startAccess Closing = StartClosing
+startAccess Collecting = StartCollecting
+
+abbrev pub endAccess : Session → Access
+endAccess Closing = EndSession
+endAccess Collecting = EndCollecting
 
 abbrev pub nextPhase : Session → Phase
 nextPhase Closing = phase.Closed

@@ -3,6 +3,7 @@
 use amounts::closing_price;
 use amounts::within;
 use auction::price;
+use market::Access;
 use market::Answer;
 use market::Carried;
 use market::Kind;
@@ -19,12 +20,10 @@ use market::Session;
 use market::Side;
 use market::Turnover;
 use market::declined;
-use market::is_closing;
-use market::is_collecting;
-use market::is_open;
 use market::registered;
 use pairing::free_all;
 use pairing::pair_all;
+use phases::admits;
 use waiting::append;
 use waiting::covers;
 ghost use Prim.Native.Nat.{_≤_, _<_};
@@ -36,7 +35,7 @@ ghost use Rattle.market.specs.Questions.{firstNo};
 ghost use Rattle.market.specs.Parts.{Carries, Ready, endOf, startOf};
 ghost use Rattle.matching.specs.Orders.{FewLots, waitingIn};
 ghost use Rattle.waiting.specs.Claims.{Reckonable};
-ghost use Rattle.session.specs.Sessions.{Endable, Ends, PairsAll, endsIn, nextPhase, phaseOf, startsAt, termsWith};
+ghost use Rattle.session.specs.Sessions.{Endable, Ends, PairsAll, endAccess, nextPhase, phaseOf, startAccess, startsAt, termsWith};
 ghost use Rattle.session.specs.Asking.{Askable, ClosingNo, closingWith, earlyClosing, laterClosing};
 
 // Which orders meet, and at which price.
@@ -65,13 +64,22 @@ fn phase_of(session: Session) -> Phase
     }
 }
 
-// May this session end in this phase?
-fn ends_in(session: Session, phase: Phase) -> bool
-    ensures { λ r. ⌜ r ≡ endsIn session phase ⌝ }
+// Its start and its end, as question 6 is asked of them.
+fn start_access(session: Session) -> Access
+    ensures { λ r. ⌜ r ≡ startAccess session ⌝ }
 {
     match session {
-        Session::Closing => is_closing(phase),
-        Session::Collecting => is_collecting(phase),
+        Session::Closing => Access::StartClosing,
+        Session::Collecting => Access::StartCollecting,
+    }
+}
+
+fn end_access(session: Session) -> Access
+    ensures { λ r. ⌜ r ≡ endAccess session ⌝ }
+{
+    match session {
+        Session::Closing => Access::EndSession,
+        Session::Collecting => Access::EndCollecting,
     }
 }
 
@@ -183,7 +191,7 @@ fn early_closing_no(
     if securities <= security {
         return 5;
     }
-    if !is_closing(phase) {
+    if !admits(phase, Access::ClosingOrder) {
         return 6;
     }
     if !within(1, MAX_LOTS, lots) {
@@ -287,7 +295,7 @@ pub fn start(
     requires { ⌜ Ready rules phase (now money) (now pieces) b ⌝ }
     ensures { λ r. ⌜ Carries rules phase (now (money .entry)) (now (pieces .entry)) b [] (startOf session) (now (money .exit)) (now (pieces .exit)) [] r ⌝ }
 {
-    if !is_open(phase) {
+    if !admits(phase, start_access(session)) {
         return declined(b, phase, 6);
     }
     if !starts_at(session, b.codes) {
@@ -362,7 +370,7 @@ pub fn end(
     if trades.len() < LENT_AT_LEAST {
         return declined(b, phase, 2);
     }
-    if !ends_in(session, phase) {
+    if !admits(phase, end_access(session)) {
         return declined(b, phase, 6);
     }
     let book = end_pairing(session, b, rules, money, pieces, trades);

@@ -1,0 +1,55 @@
+-- Question 6: "Does the phase allow it?", as a case for each phase and call (T-04). Each kind of order is a call of its own,
+-- and a member of a group is a whole-or-nothing order.
+use mathlib.Core.Bool.{Bool, true, false}
+use Rattle.market.specs.declared.Access.{Access}
+use Rattle.market.specs.declared.Access.the-variants.{ClosingOrder, EndCollecting, EndSession, FillOrKill}
+use Rattle.market.specs.declared.Access.the-variants.{ImmediateOrCancel, Kept, StartClosing, StartCollecting}
+use Rattle.market.specs.declared.Phase.{Phase}
+use Rattle.market.specs.declared.Phase.the-variants.{Closed, Closing, Collecting, Open}
+use Rattle.market.specs.declared.TimeInForce.{TimeInForce}
+use Rattle.market.specs.declared.TimeInForce.the-variants as force
+
+-- an order of this kind, as a call that question 6 is asked of
+abbrev pub orderAccess : TimeInForce → Access
+orderAccess force.Kept = Kept
+orderAccess force.ImmediateOrCancel = ImmediateOrCancel
+orderAccess force.FillOrKill = FillOrKill
+
+-- the phase allows the call
+abbrev pub admits : Phase → Access → Bool
+-- in continuous trading, but for its closing, orders enter, kept or not (70.1); "orders and groups, start: open"
+admits Open Kept = true
+admits Open ImmediateOrCancel = true
+admits Open FillOrKill = true
+admits Open ClosingOrder = false
+admits Open StartCollecting = true
+admits Open EndCollecting = false
+admits Open StartClosing = true
+admits Open EndSession = false
+-- "Question 6 admits kept orders and this end while collecting" (T-02)
+admits Collecting Kept = true
+admits Collecting ImmediateOrCancel = false
+admits Collecting FillOrKill = false
+admits Collecting ClosingOrder = false
+admits Collecting StartCollecting = false
+admits Collecting EndCollecting = true
+admits Collecting StartClosing = false
+admits Collecting EndSession = false
+-- while closing, closing orders alone enter (70.9); "closing orders, end: closing"
+admits Closing Kept = false
+admits Closing ImmediateOrCancel = false
+admits Closing FillOrKill = false
+admits Closing ClosingOrder = true
+admits Closing StartCollecting = false
+admits Closing EndCollecting = false
+admits Closing StartClosing = false
+admits Closing EndSession = true
+-- once the day is closed, none
+admits Closed Kept = false
+admits Closed ImmediateOrCancel = false
+admits Closed FillOrKill = false
+admits Closed ClosingOrder = false
+admits Closed StartCollecting = false
+admits Closed EndCollecting = false
+admits Closed StartClosing = false
+admits Closed EndSession = false

@@ -1,0 +1,264 @@
+-- What question 6 decides: the theorems of specs/Cases.
+use Prim.Native.Nat.{ℕ, zero, suc}
+use native.Mathlib.Omega.{arith}
+use mathlib.Core.Path.{_≡_, refl, ap, sym, _∙_}
+use mathlib.Core.List.{List, [], _∷_, _++_}
+use mathlib.Core.Bool.{Bool, true, false, cond}
+use lib.Dec.{T}
+use lib.ListN.{drop, length, take}
+use borrow.Author.Tests.{eqb-false}
+use Rattle.market.specs.declared.Access.{Access}
+use Rattle.market.specs.declared.Access.the-variants.{ClosingOrder, EndCollecting, EndSession, FillOrKill}
+use Rattle.market.specs.declared.Access.the-variants.{ImmediateOrCancel, Kept, StartClosing, StartCollecting}
+use Rattle.market.specs.declared.Answer.the-variants.{Refused}
+use Rattle.market.specs.declared.Order.{Order}
+use Rattle.market.specs.declared.Phase.{Phase}
+use Rattle.market.specs.declared.Phase.the-variants.{Closed, Closing, Collecting, Open}
+use Rattle.market.specs.declared.Ticket.{Ticket}
+use Rattle.market.specs.declared.TimeInForce.{TimeInForce}
+use Rattle.market.specs.declared.TimeInForce.the-variants as force
+use Rattle.market.specs.Limits.{maxMembers, minMembers}
+use Rattle.market.specs.Tests.{_=?_}
+use Rattle.market.specs.Day.{Day}
+use Rattle.market.specs.Positions.{blockFor, releaseFor, settle}
+use Rattle.market.specs.Answers.{Result, numbersOf}
+use Rattle.market.specs.Calls.{Call, cancel, closingOrder, decrease, endCollecting, endSession, entryOf, increase}
+use Rattle.market.specs.Calls.{linked, order, startClosing, startCollecting}
+use Rattle.market.specs.Matching.{Filled, fill, traded}
+use Rattle.market.specs.Phases.{admits, orderAccess}
+use Rattle.market.specs.Questions.{Question, ask, closingQuestions, firstBy, firstNo, isFree}
+use Rattle.market.specs.Questions.{orderQuestions, questions, totalFits}
+use Rattle.market.specs.Entry.{admitted, entered, placed}
+use Rattle.market.specs.Linked.{Group, groupResult, memberBy, members, passed, stopped, withMember}
+use Rattle.market.specs.Step.{allQuestions, answerBy, effect, result, step}
+use Rattle.market.proofs.Logic.{within-low}
+use Rattle.market.proofs.Questions.{AllYes, all-yes, hides, passes, proper}
+use Rattle.market.proofs.Entry.{taken-either}
+use Rattle.market.proofs.Fill.{fill-all}
+use Rattle.phases.specs.Cases.{AsBefore, AskedSix, InEveryPhase, MembersSix, NeverSix}
+use Rattle.phases.specs.Cases.{SixExactly, earlier}
+
+pub as-before : AsBefore
+as-before Open Kept = refl
+as-before Open ImmediateOrCancel = refl
+as-before Open FillOrKill = refl
+as-before Open ClosingOrder = refl
+as-before Open StartCollecting = refl
+as-before Open EndCollecting = refl
+as-before Open StartClosing = refl
+as-before Open EndSession = refl
+as-before Collecting Kept = refl
+as-before Collecting ImmediateOrCancel = refl
+as-before Collecting FillOrKill = refl
+as-before Collecting ClosingOrder = refl
+as-before Collecting StartCollecting = refl
+as-before Collecting EndCollecting = refl
+as-before Collecting StartClosing = refl
+as-before Collecting EndSession = refl
+as-before Closing Kept = refl
+as-before Closing ImmediateOrCancel = refl
+as-before Closing FillOrKill = refl
+as-before Closing ClosingOrder = refl
+as-before Closing StartCollecting = refl
+as-before Closing EndCollecting = refl
+as-before Closing StartClosing = refl
+as-before Closing EndSession = refl
+as-before Closed Kept = refl
+as-before Closed ImmediateOrCancel = refl
+as-before Closed FillOrKill = refl
+as-before Closed ClosingOrder = refl
+as-before Closed StartCollecting = refl
+as-before Closed EndCollecting = refl
+as-before Closed StartClosing = refl
+as-before Closed EndSession = refl
+
+pub in-every-phase : (d : Day) (x : Phase) (lent : ℕ) → InEveryPhase d x lent
+unfolding questions totalFits isFree
+in-every-phase d x lent = record {
+  increases = λ a p column n. refl;
+  decreases = λ a p column n. refl;
+  cancels = λ p code. refl;
+}
+
+-- none of these questions has number 6
+abbrev others : List Question → Bool
+others [] = true
+others (q ∷ qs) = cond (q .number =? 6) false (others qs)
+
+other-no : (qs : List Question) → T (others qs) → firstNo qs ≡ 6 → ⊥
+other-no [] t e = omega arith
+other-no (q ∷ qs) t e = go (other-no qs) (q .number =? 6) refl t (q .yes?) e
+  where
+    go : (T (others qs) → firstNo qs ≡ 6 → ⊥) → (z : Bool) → (q .number =? 6) ≡ z → T (cond z false (others qs))
+        → (k : Bool) → firstBy k (q .number) (firstNo qs) ≡ 6 → ⊥
+    go rest true h t k e = t
+    go rest false h t true e = rest t e
+    go rest false h t false e = eqb-false (q .number) 6 h e
+
+-- question 6 between others
+module _ (before after : List Question) where
+  six-no : T (proper before) → firstNo before ≡ 0 → firstNo (before ++ (ask 6 false ∷ after)) ≡ 6
+  six-no t e = passes before (ask 6 false ∷ after) (all-yes before t e)
+
+  six-yes : T (proper before) → T (others before) → T (others after) → firstNo (before ++ (ask 6 true ∷ after)) ≡ 6 → ⊥
+  six-yes t b a e = go (firstNo before) refl
+    where
+      go : (n : ℕ) → firstNo before ≡ n → ⊥
+      go zero z = other-no after a (sym (passes before (ask 6 true ∷ after) (all-yes before t z)) ∙ e)
+      go (suc n) z = other-no before b (sym (hides before (ask 6 true ∷ after) (omega arith)) ∙ e)
+
+-- where no question is answered "no", a call other than a group is accepted
+abbrev Accepted : Day → Call → Type 0
+Accepted d c = (numbersOf ((effect d c) .answer)) .refusal ≡ 0
+
+order-accepted : (d : Day) (p : ℕ) (m : Ticket) (k : TimeInForce) → Accepted d (order p m k)
+unfolding effect entered placed
+order-accepted d p m k =
+    taken-either (λ (r : Result). (numbersOf (r .answer)) .refusal ≡ 0) d (entryOf d p m) k refl refl
+
+-- the answer to a call by the first "no" of its questions
+module _ (d : Day) (l : List ℕ) (c : Call) where
+  abbrev asked : List Question
+  asked = allQuestions d (length l) c
+
+  refused-six : firstNo asked ≡ 6 → (step d l c) .answer ≡ Refused 6 0
+  unfolding step result
+  refused-six e = rw e
+
+  not-six : (firstNo asked ≡ 6 → ⊥) → (firstNo asked ≡ 0 → (numbersOf ((effect d c) .answer)) .refusal ≡ 6 → ⊥)
+      → (numbersOf ((step d l c) .answer)) .refusal ≡ 6 → ⊥
+  unfolding step result
+  not-six other done = go (firstNo asked) refl
+    where
+      go : (n : ℕ) → firstNo asked ≡ n → (numbersOf ((answerBy n d (effect d c)) .answer)) .refusal ≡ 6 → ⊥
+      go zero z e = done z e
+      go (suc n) z e = other (z ∙ e)
+
+  -- question 6 stands behind n questions of the call
+  asks-six : (n : ℕ) (a : Access) → asked ≡ take n asked ++ (ask 6 (admits (d .phase) a) ∷ drop (suc n) asked)
+      → earlier asked ≡ take n asked → T (proper (take n asked)) → T (others (take n asked)) → T (others (drop (suc n) asked))
+      → Accepted d c → AskedSix d l c a
+  asks-six n a split front t before after done = record {
+    refuses =
+        λ h e.
+        refused-six (ap firstNo split
+        ∙ rw h (six-no (take n asked) (drop (suc n) asked) t (ap firstNo (sym front) ∙ e)));
+    clears =
+        λ h.
+        not-six
+        (λ e.
+        six-yes (take n asked) (drop (suc n) asked) t before after
+        (ap (λ (z : Bool). firstNo (take n asked ++ (ask 6 z ∷ drop (suc n) asked))) (sym h) ∙ sym (ap firstNo split) ∙ e))
+        (λ z e. omega (arith, done));
+  }
+
+  -- it does not stand among them
+  asks-none : T (others asked) → Accepted d c → NeverSix d l c
+  asks-none t done = not-six (other-no asked t) (λ z e. omega (arith, done))
+
+-- the phase of a day stays while members of a group enter
+fill-phase : (d : Day) (e : Order) → (fill d e) .day .phase ≡ d .phase
+unfolding traded settle
+fill-phase =
+    fill-all (λ (d : Day) (e : Order) (r : Filled). r .day .phase ≡ d .phase) (λ d e h. refl) (λ d e c. refl)
+    (λ d e i p some c r h. h)
+
+whole-phase : (d : Day) (e : Order) → (entered d e force.FillOrKill) .day .phase ≡ d .phase
+unfolding entered admitted blockFor releaseFor
+whole-phase d e = fill-phase (admitted d e) e
+
+-- the number at which a group stops
+abbrev numberOf : Group → ℕ
+numberOf (stopped n at) = n
+numberOf (passed d filled ts) = 0
+
+group-number : (d : Day) (p : ℕ) (g : Group) → (numbersOf ((groupResult d p g) .answer)) .refusal ≡ numberOf g
+group-number d p (stopped n at) = refl
+group-number d p (passed d′ filled ts) = refl
+
+member-number : (r : Result) (g : Group) → numberOf (withMember r g) ≡ numberOf g
+member-number r (stopped n at) = refl
+member-number r (passed d filled ts) = refl
+
+-- of a whole-or-nothing order, questions 4 and 5 stand before question 6
+whole-six-no : (d : Day) (p : ℕ) (m : Ticket) → admits (d .phase) FillOrKill ≡ false
+    → firstNo (take 2 (orderQuestions d p m force.FillOrKill)) ≡ 0 → firstNo (orderQuestions d p m force.FillOrKill) ≡ 6
+unfolding orderQuestions
+whole-six-no d p m h e =
+    let qs = orderQuestions d p m force.FillOrKill in
+    rw h (six-no (take 2 qs) (drop 3 qs) tt e)
+
+whole-six-yes : (d : Day) (p : ℕ) (m : Ticket) → admits (d .phase) FillOrKill ≡ true
+    → firstNo (orderQuestions d p m force.FillOrKill) ≡ 6 → ⊥
+unfolding orderQuestions
+whole-six-yes d p m h e =
+    let qs = orderQuestions d p m force.FillOrKill in
+    six-yes (take 2 qs) (drop 3 qs) tt tt tt
+    (ap (λ (z : Bool). firstNo (take 2 qs ++ (ask 6 z ∷ drop 3 qs))) (sym h) ∙ e)
+
+members-admitted : (ms : List Ticket) (at : ℕ) (d : Day) (p : ℕ) → admits (d .phase) FillOrKill ≡ true
+    → numberOf (members at d p ms) ≡ 6 → ⊥
+unfolding members
+members-admitted [] at d p h e = omega arith
+members-admitted (m ∷ ms) at d p h e =
+    go (members-admitted ms (suc at) (r .day) p) (firstNo (orderQuestions d p m force.FillOrKill)) refl e
+  where
+    r : Result
+    r = entered d (entryOf d p m) force.FillOrKill
+
+    go : (admits (r .day .phase) FillOrKill ≡ true → numberOf (members (suc at) (r .day) p ms) ≡ 6 → ⊥)
+        → (n : ℕ) → firstNo (orderQuestions d p m force.FillOrKill) ≡ n
+        → numberOf (memberBy n at r (λ d′. members (suc at) d′ p ms)) ≡ 6 → ⊥
+    go rest zero z e =
+        rest (ap (λ (x : Phase). admits x FillOrKill) (whole-phase d (entryOf d p m)) ∙ h)
+        (sym (member-number r (members (suc at) (r .day) p ms)) ∙ e)
+    go rest (suc n) z e = whole-six-yes d p m h (z ∙ e)
+
+-- a group whose first member meets question 6
+group-earlier : (d : Day) (l : List ℕ) (p n : ℕ) (m : Ticket) (ms : List Ticket)
+    → firstNo (earlier (asked d l (linked p n (m ∷ ms)) ++ orderQuestions d p m force.FillOrKill)) ≡ 0
+    → AllYes (asked d l (linked p n (m ∷ ms))) × (firstNo (take 2 (orderQuestions d p m force.FillOrKill)) ≡ 0)
+unfolding questions orderQuestions
+group-earlier d l p n m ms e =
+    let y = all-yes (earlier (asked d l (linked p n (m ∷ ms)) ++ orderQuestions d p m force.FillOrKill)) tt e in
+    let z = y .1 .1 .1 in
+    ((y .0, (y .1 .0, (y .1 .1 .0, tt))), rw (z .0, z .1 .0))
+
+group-refused : (d : Day) (l : List ℕ) (p n : ℕ) (m : Ticket) (ms : List Ticket) → AllYes (asked d l (linked p n (m ∷ ms)))
+    → firstNo (orderQuestions d p m force.FillOrKill) ≡ 6 → (step d l (linked p n (m ∷ ms))) .answer ≡ Refused 6 1
+unfolding questions effect step result members
+group-refused d l p zero m ms y six = absurd (omega (arith, within-low minMembers maxMembers 0 (y .1 .1 .0)))
+group-refused d l p (suc n) m ms y six = rw (y .0, y .1 .0, y .1 .1 .0, six)
+
+group-asked : (d : Day) (l : List ℕ) (p n : ℕ) (ms : List Ticket) → MembersSix d l p n ms
+unfolding questions effect members
+group-asked d l p n [] = not-six d l (linked p n []) (other-no (asked d l (linked p n [])) tt) (λ z e. none n e)
+  where
+    none : (n : ℕ) → (numbersOf ((groupResult d p (members 1 d p (take n []))) .answer)) .refusal ≡ 6 → ⊥
+    none zero e = omega arith
+    none (suc n) e = omega arith
+group-asked d l p n (m ∷ ms) = record {
+  refuses =
+      λ h e.
+      let y = group-earlier d l p n m ms e in
+      group-refused d l p n m ms (y .0) (whole-six-no d p m h (y .1));
+  clears =
+      λ h.
+      not-six d l (linked p n (m ∷ ms)) (other-no (asked d l (linked p n (m ∷ ms))) tt)
+      (λ z e. members-admitted (take n (m ∷ ms)) 1 d p h (sym (group-number d p (members 1 d p (take n (m ∷ ms)))) ∙ e));
+}
+
+pub six-exactly : (d : Day) (l : List ℕ) (c : Call) → SixExactly d l c
+unfolding questions orderQuestions closingQuestions effect placed
+six-exactly d l (increase x p column a) = asks-none d l (increase x p column a) tt refl
+six-exactly d l (decrease x p column a) = asks-none d l (decrease x p column a) tt refl
+six-exactly d l (order p m k) =
+    asks-six d l (order p m k) 4 (orderAccess k) refl refl tt tt tt (order-accepted d p m k)
+six-exactly d l (cancel p code) = asks-none d l (cancel p code) tt refl
+six-exactly d l (linked p n ms) = group-asked d l p n ms
+six-exactly d l startClosing = asks-six d l startClosing 1 StartClosing refl refl tt tt tt refl
+six-exactly d l (closingOrder p side s lots) =
+    asks-six d l (closingOrder p side s lots) 3 ClosingOrder refl refl tt tt tt refl
+six-exactly d l endSession = asks-six d l endSession 2 EndSession refl refl tt tt tt refl
+six-exactly d l startCollecting = asks-six d l startCollecting 1 StartCollecting refl refl tt tt tt refl
+six-exactly d l endCollecting = asks-six d l endCollecting 2 EndCollecting refl refl tt tt tt refl
