@@ -17,7 +17,8 @@ orderAccess force.FillOrKill = FillOrKill
 
 -- the phase allows the call
 abbrev pub admits : Phase → Access → Bool
--- in continuous trading, but for its closing, orders enter, kept or not (70.1); "orders and groups, start: open"
+-- in continuous trading, but for its closing, orders enter, kept or not (70.1); "orders and groups, start: open"; collecting
+-- is "begun by a call while open" (T-02)
 admits Open Kept = true
 admits Open ImmediateOrCancel = true
 admits Open FillOrKill = true

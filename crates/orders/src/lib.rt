@@ -36,7 +36,7 @@ ghost use Prim.Native.Nat.{_≤_};
 ghost use Rattle.market.specs.Limits.{maxCodes, maxWaiting};
 ghost use Rattle.market.specs.Waiting.{indexOf};
 ghost use Rattle.market.specs.Calls.{cancel as cancelCall, order as orderCall};
-ghost use Rattle.market.specs.Phases.{orderAccess};
+ghost use Rattle.market.specs.Phases.{admits as admitsCall, orderAccess};
 ghost use Rattle.market.specs.Questions.{firstNo};
 ghost use Rattle.market.specs.Entry.{leftWaiting};
 ghost use Rattle.market.specs.Parts.{Carries, Ready};
@@ -90,14 +90,14 @@ pub fn is_fillable(book: OrderBook, force: TimeInForce, entry: Order) -> bool
     }
 }
 
-// An order of this kind, as question 6 is asked of it.
-fn order_access(force: TimeInForce) -> Access
-    ensures { λ r. ⌜ r ≡ orderAccess force ⌝ }
+// Question 6 of an order, each kind a call of its own.
+fn admits_order(phase: Phase, force: TimeInForce) -> bool
+    ensures { λ r. ⌜ r ≡ admitsCall phase (orderAccess force) ⌝ }
 {
     match force {
-        TimeInForce::Kept => Access::Kept,
-        TimeInForce::ImmediateOrCancel => Access::ImmediateOrCancel,
-        TimeInForce::FillOrKill => Access::FillOrKill,
+        TimeInForce::Kept => admits(phase, Access::Kept),
+        TimeInForce::ImmediateOrCancel => admits(phase, Access::ImmediateOrCancel),
+        TimeInForce::FillOrKill => admits(phase, Access::FillOrKill),
     }
 }
 
@@ -118,7 +118,7 @@ fn early_no(
     if securities <= member.security {
         return 5;
     }
-    if !admits(phase, order_access(force)) {
+    if !admits_order(phase, force) {
         return 6;
     }
     if !within(1, MAX_LOTS, member.lots) {

@@ -31,6 +31,7 @@ ghost use mathlib.Core.Path.{_≡_};
 ghost use mathlib.Core.List.{[]};
 ghost use Rattle.market.specs.Limits.{maxCodes, maxSecurities};
 ghost use Rattle.market.specs.Calls.{closingOrder};
+ghost use Rattle.market.specs.Phases.{admits as admitsCall};
 ghost use Rattle.market.specs.Questions.{firstNo};
 ghost use Rattle.market.specs.Parts.{Carries, Ready, endOf, startOf};
 ghost use Rattle.matching.specs.Orders.{FewLots, waitingIn};
@@ -64,22 +65,22 @@ fn phase_of(session: Session) -> Phase
     }
 }
 
-// Its start and its end, as question 6 is asked of them.
-fn start_access(session: Session) -> Access
-    ensures { λ r. ⌜ r ≡ startAccess session ⌝ }
+// Question 6 of its start and of its end.
+fn admits_start(phase: Phase, session: Session) -> bool
+    ensures { λ r. ⌜ r ≡ admitsCall phase (startAccess session) ⌝ }
 {
     match session {
-        Session::Closing => Access::StartClosing,
-        Session::Collecting => Access::StartCollecting,
+        Session::Closing => admits(phase, Access::StartClosing),
+        Session::Collecting => admits(phase, Access::StartCollecting),
     }
 }
 
-fn end_access(session: Session) -> Access
-    ensures { λ r. ⌜ r ≡ endAccess session ⌝ }
+fn admits_end(phase: Phase, session: Session) -> bool
+    ensures { λ r. ⌜ r ≡ admitsCall phase (endAccess session) ⌝ }
 {
     match session {
-        Session::Closing => Access::EndSession,
-        Session::Collecting => Access::EndCollecting,
+        Session::Closing => admits(phase, Access::EndSession),
+        Session::Collecting => admits(phase, Access::EndCollecting),
     }
 }
 
@@ -295,7 +296,7 @@ pub fn start(
     requires { ⌜ Ready rules phase (now money) (now pieces) b ⌝ }
     ensures { λ r. ⌜ Carries rules phase (now (money .entry)) (now (pieces .entry)) b [] (startOf session) (now (money .exit)) (now (pieces .exit)) [] r ⌝ }
 {
-    if !admits(phase, start_access(session)) {
+    if !admits_start(phase, session) {
         return declined(b, phase, 6);
     }
     if !starts_at(session, b.codes) {
@@ -370,7 +371,7 @@ pub fn end(
     if trades.len() < LENT_AT_LEAST {
         return declined(b, phase, 2);
     }
-    if !admits(phase, end_access(session)) {
+    if !admits_end(phase, session) {
         return declined(b, phase, 6);
     }
     let book = end_pairing(session, b, rules, money, pieces, trades);

@@ -1,7 +1,5 @@
 -- `session::end` meets its contract: questions 2 and 6, then the pairing, and the rest leave.
-use mathlib.Core.Path.{ap, _∙_}
 use Rattle.amounts.proofs.Answers.{fails, holds}
-use Rattle.market.specs.Phases.{admits}
 use Rattle.session.proofs.Calling.{endable, end-refused, end-unlent, ended}
 use borrow.Author.Needs.{needs}
 use Rattle.session.proofs.end.Statement.{statement}
@@ -15,32 +13,25 @@ returns c =
     let b = c .before .before .before in
     rw (c .declined .ensures) (end-unlent (b .pre) (b .args .session) (b .args .trades .now) (c .before .if1 .taken))
 
-end-access-requires : tie.Need-end-access-requires
-end-access-requires c κs = search needs
-
-admits-requires : tie.Need-admits-requires
-admits-requires c κs = search needs
+admits-end-requires : tie.Need-admits-end-requires
+admits-end-requires c κs = search needs
 
 declined-requires-2 : tie.Need-declined-requires-2
 declined-requires-2 c κs = search needs
 
 returns-2 : tie.Need-returns-2
 returns-2 c =
-    let a = c .before .before in
-    let o = a .before in
+    let o = c .before .before in
     let b = o .before .before .before in
     rw (c .declined2 .ensures)
     (end-refused (b .pre) (b .args .session) (b .args .trades .now) (o .before .if1 .left)
-    (fails (a .admits .ensures ∙ ap (admits (b .args .phase)) (o .end-access .ensures)) (c .before .if2 .taken)))
+    (fails (o .admits-end .ensures) (c .before .if2 .taken)))
 
 end-pairing-requires : tie.Need-end-pairing-requires
 end-pairing-requires c κs =
     let q = c .before .before .before in
-    let a = q .before in
-    let o = a .before in
-    let b = o .before .before .before in
-    endable (b .pre) (b .args .session) (b .args .trades .now) (o .before .if1 .left)
-    (holds (a .admits .ensures ∙ ap (admits (b .args .phase)) (o .end-access .ensures)) (q .if2 .left))
+    let b = q .before .before .before .before in
+    endable (b .pre) (b .args .session) (b .args .trades .now) (q .before .before .if1 .left) (holds (q .before .admits-end .ensures) (q .if2 .left))
 
 next-phase-requires : tie.Need-next-phase-requires
 next-phase-requires c κs = search needs
@@ -52,12 +43,9 @@ returns-3 : tie.Need-returns-3
 returns-3 c =
     let e = c .before .before .before in
     let q = e .before .before .before .before in
-    let a = q .before in
-    let o = a .before in
-    let b = o .before .before .before in
+    let b = q .before .before .before .before in
     rw (c .next-phase .ensures)
-    (ended (b .pre) (b .args .session) (b .args .trades .now) (o .before .if1 .left)
-    (holds (a .admits .ensures ∙ ap (admits (b .args .phase)) (o .end-access .ensures)) (q .if2 .left))
+    (ended (b .pre) (b .args .session) (b .args .trades .now) (q .before .before .if1 .left) (holds (q .before .admits-end .ensures) (q .if2 .left))
     (e .end-pairing .result) (e .end-pairing .ensures))
 
 pub end-spec : {M : Type 1} → statement M
@@ -66,8 +54,7 @@ end-spec =
     (tie.spec
     declined-requires
     returns
-    end-access-requires
-    admits-requires
+    admits-end-requires
     declined-requires-2
     returns-2
     end-pairing-requires

@@ -1,17 +1,12 @@
 -- `session::start` meets its contract: questions 6 and 21, then all orders leave and the phase is the session's.
-use mathlib.Core.Path.{ap, _∙_}
 use Rattle.amounts.proofs.Answers.{fails, holds}
-use Rattle.market.specs.Phases.{admits}
 use Rattle.session.proofs.Calling.{leavable, start-late, start-refused, started}
 use borrow.Author.Needs.{needs}
 use Rattle.session.proofs.start.Statement.{statement}
 use Rattle.session.proofs.start.Tie as tie
 
-start-access-requires : tie.Need-start-access-requires
-start-access-requires c κs = search needs
-
-admits-requires : tie.Need-admits-requires
-admits-requires c κs = search needs
+admits-start-requires : tie.Need-admits-start-requires
+admits-start-requires c κs = search needs
 
 declined-requires : tie.Need-declined-requires
 declined-requires c κs = search needs
@@ -19,10 +14,9 @@ declined-requires c κs = search needs
 returns : tie.Need-returns
 returns c =
     let o = c .before .before in
-    let b = o .before .before in
+    let b = o .before in
     rw (c .declined .ensures)
-    (start-refused (b .pre) (b .args .session)
-    (fails (o .admits .ensures ∙ ap (admits (b .args .phase)) (o .before .start-access .ensures)) (c .before .if1 .taken)))
+    (start-refused (b .pre) (b .args .session) (fails (o .admits-start .ensures) (c .before .if1 .taken)))
 
 starts-at-requires : tie.Need-starts-at-requires
 starts-at-requires c κs = search needs
@@ -34,15 +28,13 @@ returns-2 : tie.Need-returns-2
 returns-2 c =
     let q = c .before .before in
     let e = q .before in
-    let o = e .before in
-    let b = o .before .before in
+    let b = e .before .before in
     rw (c .declined2 .ensures)
-    (start-late (b .pre) (b .args .session)
-    (holds (o .admits .ensures ∙ ap (admits (b .args .phase)) (o .before .start-access .ensures)) (e .if1 .left))
+    (start-late (b .pre) (b .args .session) (holds (e .before .admits-start .ensures) (e .if1 .left))
     (fails (q .starts-at .ensures) (c .before .if2 .taken)))
 
 free-all-requires : tie.Need-free-all-requires
-free-all-requires c κs = leavable (c .before .before .before .before .before .before .before .pre)
+free-all-requires c κs = leavable (c .before .before .before .before .before .before .pre)
 
 phase-of-requires : tie.Need-phase-of-requires
 phase-of-requires c κs = search needs
@@ -53,19 +45,16 @@ returns-3 c =
     let w = f .before .before .before in
     let q = w .before in
     let e = q .before in
-    let o = e .before in
-    let b = o .before .before in
+    let b = e .before .before in
     rw (c .phase-of .ensures)
-    (started (b .pre) (b .args .session)
-    (holds (o .admits .ensures ∙ ap (admits (b .args .phase)) (o .before .start-access .ensures)) (e .if1 .left))
+    (started (b .pre) (b .args .session) (holds (e .before .admits-start .ensures) (e .if1 .left))
     (holds (q .starts-at .ensures) (w .if2 .left)) (f .free-all .ensures))
 
 pub start-spec : {M : Type 1} → statement M
 start-spec =
     tie.close
     (tie.spec
-    start-access-requires
-    admits-requires
+    admits-start-requires
     declined-requires
     returns
     starts-at-requires
