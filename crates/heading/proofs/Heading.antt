@@ -105,30 +105,30 @@ module _ {text : List ℕ} {first : Reading} (reads : Reads text 0 first) where
 
   -- an `H` line, and what its `S` lines come to
   pub heading-is : {p c s : ℕ} {r : code.Headed} → first .says ≡ line.Heading p c s
-      → ReadsLines text (first .next) p c s 0 r → ReadsHeading text r
+      → ReadsLines text (first .next) p c s r → ReadsHeading text r
   heading-is {p} {c} {s} {r} e h = subst (λ (x : Headed). ReadsAs x text r) (sym (heading-reads ∙ rw e)) h
 
 -- the `S` lines from `from` on
-module _ (p c rate : ℕ) {text : List ℕ} {from s : ℕ} {lines : Securities} (l : ReadsSecurities text from s lines) where
+module _ (p c : ℕ) {text : List ℕ} {from s : ℕ} {lines : Securities} (l : ReadsSecurities text from s lines) where
   abbrev whole : Headed
-  whole = openedBy p c s rate (securitiesFrom s 0 noTable (drop from text))
+  whole = openedBy p c s (securitiesFrom s 0 noTable (drop from text))
 
-  heading-lines : whole ≡ openedBy p c s rate (linesIn (lines .fault) (lines .table) (drop (lines .next) text))
-  heading-lines = ap (openedBy p c s rate) (sym (l .lines))
+  heading-lines : whole ≡ openedBy p c s (linesIn (lines .fault) (lines .table) (drop (lines .next) text))
+  heading-lines = ap (openedBy p c s) (sym (l .lines))
 
   pub lines-wrong : {r : code.Headed} → (lines .fault ≡ 0 → ⊥) → WrongHeading (lines .fault) r
-      → ReadsLines text from p c s rate r
+      → ReadsLines text from p c s r
   lines-wrong some w =
-      reads-fault (heading-lines ∙ ap (openedBy p c s rate) (lines-fault (lines .fault) (lines .table) _ some)) w
+      reads-fault (heading-lines ∙ ap (openedBy p c s) (lines-fault (lines .fault) (lines .table) _ some)) w
 
   abbrev rules : Rules
-  rules = record { participants = p; currencies = c; securities = s; table = lines .table; rate = rate }
+  rules = record { participants = p; currencies = c; securities = s; table = lines .table; rate = 0 }
 
   module _ (none : lines .fault ≡ 0) {o : Outcome} (opens : Opens rules o) where
     pub lines-open : {place : ℕ} → place ≡ (numbersOf (o .answer)) .place
-        → ReadsLines text from p c s rate (record { outcome = o; line = place + 1; next = s + 2; at = lines .next })
+        → ReadsLines text from p c s (record { outcome = o; line = place + 1; next = s + 2; at = lines .next })
     lines-open {place} same =
-        let h : whole ≡ openedBy p c s rate (read (lines .table) (drop (lines .next) text)) = heading-lines ∙ rw none in
+        let h : whole ≡ openedBy p c s (read (lines .table) (drop (lines .next) text)) = heading-lines ∙ rw none in
         record {
           line = rw (h, same, opens .answer) (add-one _);
           answer = rw h (opens .answer);

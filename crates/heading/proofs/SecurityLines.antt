@@ -113,11 +113,11 @@ module _ {text : List ℕ} {from n : ℕ} {table : List Security} {at i : ℕ} (
 
       pub passed-next : {currency lot step : ℕ} {table′ : List Security}
           → r .says ≡ line.Security currency lot step
-          → table′ ≡ set table i (record { currency = currency; lot = lot; step = step })
+          → table′ ≡ set table i (record { currency = currency; lot = lot; step = step; nominal = 0 })
           → Passed text from n table′ (r .next) (i + 1)
       passed-next {currency} {lot} {step} {table′} e t =
           let forward = reads .forward k in
-          let row : Security = record { currency = currency; lot = lot; step = step } in
+          let row : Security = record { currency = currency; lot = lot; step = step; nominal = 0 } in
           record {
             short = p .short;
             within = omega arith;

@@ -45,12 +45,12 @@ pub data Lines : Type 0 where
   wrong : ℕ → Lines
   read : List Security → List ℕ → Lines
 
--- a line that has to be a security's, or the first fault on line n
+-- a line that has to be a security's, or the first fault on line n; it has no nominal (T-05)
 abbrev pub securityBy : Line → ℕ → (Security → Lines) → Lines
 securityBy (line.Call c) n next = wrong n
 securityBy (line.Heading a b c) n next = wrong n
 securityBy (line.Security currency lot step) n next =
-    next (record { currency = currency; lot = lot; step = step })
+    next (record { currency = currency; lot = lot; step = step; nominal = 0 })
 securityBy (line.Member m) n next = wrong n
 securityBy line.Malformed n next = wrong n
 
@@ -66,17 +66,18 @@ securitiesFrom (suc n) i table (x ∷ t) =
 abbrev pub noTable : List Security
 noTable = replicate maxSecurities noSecurity
 
--- "forms come first, then 17, then 18", 17 "on line 1", 18 on the line of its place
-abbrev pub openedBy : ℕ → ℕ → ℕ → ℕ → Lines → Headed
-openedBy p c s rate (wrong n) = fault n
-openedBy p c s rate (read table t) =
-    let r = opening (record { participants = p; currencies = c; securities = s; table = table; rate = rate }) in
+-- "forms come first, then 17, then 18", 17 "on line 1", 18 on the line of its place; a day file has no rate, which counts
+-- as 0 (T-03)
+abbrev pub openedBy : ℕ → ℕ → ℕ → Lines → Headed
+openedBy p c s (wrong n) = fault n
+openedBy p c s (read table t) =
+    let r = opening (record { participants = p; currencies = c; securities = s; table = table; rate = 0 }) in
     record { line = suc ((numbersOf (r .answer)) .place); answer = r .answer; day = r .day; rest = t; next = s + 2 }
 
--- the first line has to be an `H`; it has no rate, which counts as 0 (T-03)
+-- the first line has to be an `H`
 abbrev pub headedBy : Line → List ℕ → Headed
 headedBy (line.Call c) t = fault 1
-headedBy (line.Heading p c s) t = openedBy p c s 0 (securitiesFrom s 0 noTable t)
+headedBy (line.Heading p c s) t = openedBy p c s (securitiesFrom s 0 noTable t)
 headedBy (line.Security a b c) t = fault 1
 headedBy (line.Member m) t = fault 1
 headedBy line.Malformed t = fault 1
@@ -117,5 +118,5 @@ abbrev pub ReadsHeading : List ℕ → code.Headed → Type 0
 ReadsHeading text r = ReadsAs (heading text) text r
 
 -- the heading whose `H` says this, with its `S` lines from `from` on
-abbrev pub ReadsLines : (text : List ℕ) → (from p c s rate : ℕ) → code.Headed → Type 0
-ReadsLines text from p c s rate r = ReadsAs (openedBy p c s rate (securitiesFrom s 0 noTable (drop from text))) text r
+abbrev pub ReadsLines : (text : List ℕ) → (from p c s : ℕ) → code.Headed → Type 0
+ReadsLines text from p c s r = ReadsAs (openedBy p c s (securitiesFrom s 0 noTable (drop from text))) text r

@@ -17,10 +17,10 @@ ghost use Rattle.heading.specs.Heading.{ReadsHeading, ReadsLines, ReadsS
 pub const MALFORMED: u64 = 19;
 
 // The `S` lines of a heading: the line of the first fault or 0, and the place where the text goes on.
-struct Securities {
-    fault: u64,
-    table: [Security; 16],
-    next: usize,
+pub struct Securities {
+    pub fault: u64,
+    pub table: [Security; 16],
+    pub next: usize,
 }
 
 // A heading: its answer and the line that it stands on, and the line and place where the text goes on.
@@ -47,6 +47,7 @@ fn securities_at(text: &[u8], from: usize, n: u64) -> Securities
         currency: 0,
         lot: 0,
         step: 0,
+        nominal: 0,
     };
     let mut table = [none; 16];
     let mut at = from;
@@ -65,6 +66,7 @@ fn securities_at(text: &[u8], from: usize, n: u64) -> Securities
                 currency,
                 lot,
                 step,
+                nominal: 0,
             };
         }
         i += 1;
@@ -78,7 +80,7 @@ fn securities_at(text: &[u8], from: usize, n: u64) -> Securities
 }
 
 // A heading whose first fault stands on this line.
-fn wrong_heading(line: u64) -> Headed
+pub fn wrong_heading(line: u64) -> Headed
     ensures { λ r. ⌜ WrongHeading line r ⌝ }
 {
     Headed {
@@ -90,7 +92,7 @@ fn wrong_heading(line: u64) -> Headed
 }
 
 // The place of a refusal; 0 where the call is accepted.
-fn place_of(answer: Answer) -> u64
+pub fn place_of(answer: Answer) -> u64
     ensures { λ r. ⌜ r ≡ (numbersOf answer) .place ⌝ }
 {
     match answer {
@@ -99,17 +101,16 @@ fn place_of(answer: Answer) -> u64
     }
 }
 
-// The heading whose `H` line says this, with its `S` lines from here on, and the day that it opens.
-pub fn opened_with(
+// The heading whose `H` line says this, with its `S` lines from here on, and the day that it opens. A day file has no rate.
+fn opened_with(
     text: &[u8],
     from: usize,
     participants: u64,
     currencies: u64,
     securities: u64,
-    rate: u64,
 ) -> Headed
     requires { ⌜ length (now text) ≤ maxText ⌝ }
-    ensures { λ r. ⌜ ReadsLines (now (text .entry)) from participants currencies securities rate r ⌝ }
+    ensures { λ r. ⌜ ReadsLines (now (text .entry)) from participants currencies securities r ⌝ }
 {
     let lines = securities_at(text, from, securities);
     if lines.fault != 0 {
@@ -121,7 +122,7 @@ pub fn opened_with(
         currencies,
         securities,
         table,
-        rate,
+        rate: 0,
     });
     let answer = outcome.answer;
     Headed {
@@ -132,7 +133,7 @@ pub fn opened_with(
     }
 }
 
-// The heading of a day file, which has no rate, with the day that it opens.
+// The heading of a day file, with the day that it opens.
 pub fn heading_of(text: &[u8]) -> Headed
     requires { ⌜ length (now text) ≤ maxText ⌝ }
     ensures { λ r. ⌜ ReadsHeading (now (text .entry)) r ⌝ }
@@ -142,5 +143,5 @@ pub fn heading_of(text: &[u8]) -> Headed
     let Line::Heading(participants, currencies, securities) = says else {
         return wrong_heading(1);
     };
-    opened_with(text, reading.next, participants, currencies, securities, 0)
+    opened_with(text, reading.next, participants, currencies, securities)
 }

@@ -28,10 +28,10 @@ pub record Day : Type 0 where
 
 -- what stands past a list's end: zeros, and of an enum the first variant
 abbrev pub noSecurity : Security
-noSecurity = record { currency = 0; lot = 0; step = 0 }
+noSecurity = record { currency = 0; lot = 0; step = 0; nominal = 0 }
 
 abbrev pub noTurnover : Turnover
-noTurnover = record { pieces = 0; money = 0 }
+noTurnover = record { pieces = 0; value = 0 }
 
 abbrev pub noOrder : Order
 noOrder = record { code = 0; participant = 0; side = Buy; security = 0; lots = 0; kind = kind.Kept 0 }

@@ -26,4 +26,5 @@ pub mod Contract
 pub mod Edge
 pub mod AuctionEdge
 pub mod TariffEdge
+pub mod PercentEdge
 pub mod Example

@@ -5,10 +5,10 @@ use mathlib.Core.Bool.{cond}
 use lib.ListN.{replicate}
 use Rattle.market.specs.declared.Phase.the-variants.{Open}
 use Rattle.market.specs.Limits.{maxSecurities, positionNumbers}
-use Rattle.market.specs.Tests.{_=?_}
+use Rattle.market.specs.Tests.{_=?_, allBelow}
 use Rattle.market.specs.declared.Rules.{Rules}
 use Rattle.market.specs.Day.{Day, row, noSecurity, noTurnover}
-use Rattle.market.specs.Sound.{countsSound, rateSound, rowSound}
+use Rattle.market.specs.Sound.{countsSound, nominalSound, rateSound, rowSound}
 use Rattle.market.specs.Answers.{Result, refused, zeros}
 use Rattle.market.specs.Questions.{Question, ask, firstNo}
 
@@ -45,11 +45,12 @@ abbrev pub wrongLine : Rules → ℕ
 wrongLine r = firstWrong r (r .securities) 0
 
 -- "counts in range? No: 17. Every security's line in range, its currency known? No: 18"; "a rate above 1,000 with 22, after
--- 18" (T-03)
+-- 18" (T-03); "any other nominal with 23, after 18 and before 22" (T-05)
 abbrev pub openingQuestions : Rules → List Question
 openingQuestions r =
     ask 17 (countsSound (r .participants) (r .currencies) (r .securities)) ∷
     ask 18 (wrongLine r =? 0) ∷
+    ask 23 (allBelow (r .securities) (λ s. nominalSound (row r s))) ∷
     ask 22 (rateSound (r .rate)) ∷ []
 
 -- the place of a refusal: that of the first wrong line, else 0

@@ -16,7 +16,7 @@ use Rattle.market.specs.declared.Session.{Session}
 use Rattle.market.specs.declared.Session.the-variants as session
 use Rattle.market.specs.declared.State.{State}
 use Rattle.market.specs.declared.Ticket.{Ticket}
-use Rattle.market.specs.Limits.{maxLot, maxRate}
+use Rattle.market.specs.Limits.{maxLot, maxNominal, maxRate}
 use Rattle.market.specs.Day.{Money, Pieces, row}
 use Rattle.market.specs.View.{Sized, dayOf, view}
 use Rattle.market.specs.Sound.{sound}
@@ -72,6 +72,7 @@ listing r s = record { row = row r s; rate = r .rate }
 -- what keeps the sums and fees of a listing small
 pub record ListingOk (l : Listing) : Type 0 where
   pub lot : l .row .lot ≤ maxLot
+  pub nominal : l .row .nominal ≤ maxNominal
   pub rate : l .rate ≤ maxRate
 
 -- the day that these parts make up is sound, and its arrays have their lengths

@@ -10,7 +10,7 @@ use Rattle.market.specs.Tests.{sumBelow}
 use Rattle.market.specs.declared.Rules.{Rules}
 use Rattle.market.specs.Day.{Day, account, blockedAt, currencyOf, freeAt, row, cell, position, positions}
 use Rattle.market.specs.Day.{turnoverAt, withLots, withMoney, withPieces, withPositions}
-use Rattle.market.specs.Needs.{assetOf, bothFees, need, piecesOf, cellFor, proceeds, sumFor, withFee}
+use Rattle.market.specs.Needs.{assetOf, bothFees, need, piecesOf, cellFor, proceeds, sumFor, valueFor, withFee}
 
 -- the position at cell j becomes f of it
 unfoldable pub change : List ℕ → ℕ → (Position → Position) → List ℕ
@@ -57,9 +57,9 @@ freeFor d o = (position (positions (assetOf (o .side)) d) (cellFor (d .rules) o)
 abbrev pub fall : Rules → List Turnover → Order → ℕ → ℕ
 fall r t o n = need r t o - need r t (withLots o (o .lots - n))
 
--- "the buyer's blocked money falls by his own price × n × lot size", that is by the fall in his need; "the sum p × n × lot
--- size goes to the seller's free money; the difference returns to the buyer's free money". Of the sum each side pays the
--- fee "into the market's own account"; "whatever a partial fill leaves over is freed" (T-03)
+-- "A buyer's blocked money falls in a trade by the fall in what his order needs, and what the trade doesn't cost is freed"
+-- (T-05); "the sum .. goes to the seller's free money". Of the sum each side pays the fee "into the market's own account"
+-- (T-03)
 abbrev pub moneySettled : Day → Order → Order → ℕ → ℕ → List ℕ
 moneySettled d b s n sum =
     let currency = currencyOf (d .rules) (b .security) in
@@ -80,13 +80,13 @@ settle d b s p n =
     withPieces (withMoney d (moneySettled d b s n (sumFor (row (d .rules) (b .security)) p n)))
     (piecesSettled d b s n (piecesOf (row (d .rules) (b .security)) n))
 
--- Q and T with q pieces and t money more
+-- Q with q pieces more, T with this value
 abbrev pub counting : ℕ → ℕ → Turnover → Turnover
-counting q t x = record { pieces = x .pieces + q; money = x .money + t }
+counting q value x = record { pieces = x .pieces + q; value = x .value + value }
 
--- "Each trade adds to Q and T": n lots of security s at price p
+-- "Each trade adds to Q and T": n lots of security s at price p; T, whatever the form of price, "adds price × pieces" (T-05)
 unfoldable pub counted : Rules → List Turnover → ℕ → ℕ → ℕ → List Turnover
-counted r t s p n = set t s (counting (piecesOf (row r s) n) (sumFor (row r s) p n) (turnoverAt t s))
+counted r t s p n = set t s (counting (piecesOf (row r s) n) (valueFor (row r s) p n) (turnoverAt t s))
 
 -- free plus blocked
 abbrev pub total : Position → ℕ

@@ -19,7 +19,7 @@ tariffRules lot step rate = record {
   participants = 2;
   currencies = 1;
   securities = 1;
-  table = record { currency = 0; lot = lot; step = step } ∷ replicate 15 noSecurity;
+  table = record { currency = 0; lot = lot; step = step; nominal = 0 } ∷ replicate 15 noSecurity;
   rate = rate;
 }
 
@@ -65,7 +65,7 @@ pub record TariffEdge : Type 0 where
   pub market : account (fills .money) 0 ≡ 190
   -- trade list and T stay without fees
   pub tradeSum : take 8 (listAfter offers (buy 0 100 20 Kept)) ≡ 2 ∷ 1 ∷ 0 ∷ 1 ∷ 0 ∷ 95 ∷ 10 ∷ 9500 ∷ []
-  pub turnover : turnoverAt (fills .turnover) 0 ≡ record { pieces = 100; money = 9500 }
+  pub turnover : turnoverAt (fills .turnover) 0 ≡ record { pieces = 100; value = 9500 }
   -- "what its remaining lots need is reckoned the same way; whatever a partial fill leaves over is freed": 198 and 1 fall
   -- to 99, and 99 are paid
   pub oddUnit : moneyOf (after odd (buy 0 99 2 Kept ∷ [])) 0 ≡ record { free = 1; blocked = 99 }

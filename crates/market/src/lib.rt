@@ -24,6 +24,15 @@ pub const MAX_LOTS: u64 = 10000;
 
 pub const MAX_PRICE: u64 = 1000000;
 
+pub const MIN_NOMINAL: u64 = 10000;
+
+pub const MAX_NOMINAL: u64 = 500000;
+
+// The highest price in hundredths of a percent, and how many of them are the whole nominal.
+pub const MAX_PERCENT_PRICE: u64 = 20000;
+
+pub const HUNDRED_PERCENT: u64 = 10000;
+
 pub const MAX_WAITING: u64 = 128;
 
 pub const MAX_CODES: u64 = 1000000;
@@ -45,7 +54,7 @@ pub const RATE_UNIT: u64 = 100000;
 pub const MARKET: u64 = 16;
 
 // The limits in the order of specs/Limits, each equal to the definition's.
-pub fn limits() -> [u64; 18]
+pub fn limits() -> [u64; 22]
     ensures { λ r. ⌜ r ≡ limitsInOrder ⌝ }
 {
     [
@@ -58,6 +67,10 @@ pub fn limits() -> [u64; 18]
         PIECES_LIMIT,
         MAX_LOTS,
         MAX_PRICE,
+        MIN_NOMINAL,
+        MAX_NOMINAL,
+        MAX_PERCENT_PRICE,
+        HUNDRED_PERCENT,
         MAX_WAITING,
         MAX_CODES,
         MAX_PIECES,
@@ -108,16 +121,18 @@ pub enum Access {
     EndSession,
 }
 
+// With a nominal its prices are hundredths of a percent of that; with 0, none, they are minor units.
 pub struct Security {
     pub currency: u64,
     pub lot: u64,
     pub step: u64,
+    pub nominal: u64,
 }
 
-// Q pieces and T money of a security, traded while open.
+// Q and T of a security, traded while open: its pieces, and price × pieces.
 pub struct Turnover {
     pub pieces: u64,
-    pub money: u64,
+    pub value: u64,
 }
 
 // A waiting order.

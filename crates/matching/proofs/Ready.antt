@@ -18,7 +18,8 @@ use Rattle.market.specs.declared.Rules.{Rules}
 use Rattle.market.specs.Day.{Asset, Day, Money, Pieces, currencyOf, row, noOrder, orderAt, cell, turnoverAt}
 use Rattle.market.specs.Day.{withMoney, withPieces}
 use Rattle.market.specs.View.{dayOf}
-use Rattle.market.specs.Needs.{assetOf, bothFees, columnOf, limitOf, need, needAt, piecesOf, cellFor, proceeds, sumFor, withFee}
+use Rattle.market.specs.Needs.{assetOf, bothFees, cellFor, columnOf, limitOf, need, needAt, piecesOf, proceeds, sumFor}
+use Rattle.market.specs.Needs.{valueFor, withFee}
 use Rattle.market.specs.Positions.{change, counted, counting, fall, moneySettled, pay, piecesSettled, receive, settle}
 use Rattle.market.specs.Parts.{listing}
 use Rattle.market.specs.Waiting.{takeOff}
@@ -29,6 +30,7 @@ use Rattle.market.proofs.View.{first-length}
 use Rattle.market.proofs.Lists.{all-map, sum-remove}
 use Rattle.market.proofs.Amounts.{only-same}
 use Rattle.market.proofs.Needs.{fall-pays, fall-sells, fee-shared, need-own, pieces-small, pieces-split, sum-small}
+use Rattle.market.proofs.Needs.{value-small}
 use Rattle.market.proofs.Known.{OrderOk, listing-ok}
 use Rattle.market.proofs.Matching.{Chosen}
 use Rattle.positions.specs.Payable.{Payable}
@@ -116,7 +118,7 @@ module _ (x : List Order) (d : Day) (backed : Backed x d) (buy sell : Order) (p 
         security = omega (arith, buyOk .security, rules .securities);
         currency = omega (arith, hc, rules .currencies);
         rate = rules .rate;
-        small = sum-small (own .row) p n (rules .lot s (buyOk .security)) top (omega (arith, buyOk .top));
+        small = sum-small (own .row) p n (rules .lot s (buyOk .security)) (rules .nominal s (buyOk .security)) top (omega (arith, buyOk .top));
         account = held-account (backed .held Money) c hc;
         money =
             payable (backed .held Money) (omega arith) (buy .participant) (sell .participant) c falls
@@ -220,7 +222,7 @@ module _ {r : Rules} {l : Listing} {b : OrderBook} {e : Order} {m k : List ℕ} 
   top-of Sell = ((okO d e (f .flight) i p n some chosen ne no) .top, no)
 
   -- Q + pieces ≤ 10^7 × codes and T ≤ 10^6 × Q, with at most 10^6 codes
-  counts : Countable (turnoverAt t (e .security)) (piecesOf (row r (e .security)) n) (sumFor (row r (e .security)) p n)
+  counts : Countable (turnoverAt t (e .security)) (piecesOf (row r (e .security)) n) (valueFor (row r (e .security)) p n)
   counts =
       let g = f .flight in
       let s = e .security in
@@ -236,7 +238,7 @@ module _ {r : Rules} {l : Listing} {b : OrderBook} {e : Order} {m k : List ℕ} 
         roomQ = omega (arith, q .top);
         roomT = omega (arith, q .top, q .high);
         few = pieces-small x n lot lots;
-        low = sum-small x p n lot (price .1) lots;
+        low = value-small x p n lot (price .1) lots;
       }
 
   -- in terms of the entry's security
@@ -263,7 +265,7 @@ module _ {r : Rules} {l : Listing} {b : OrderBook} {e : Order} {m k : List ℕ} 
           part = lots .1;
         };
         price = price .1;
-        counts = subst (λ (x : ℕ). Countable (turnoverAt t x) (piecesOf (row r x) n) (sumFor (row r x) p n)) (sym s) counts;
+        counts = subst (λ (x : ℕ). Countable (turnoverAt t x) (piecesOf (row r x) n) (valueFor (row r x) p n)) (sym s) counts;
         lent = lent;
       }))
 
@@ -292,7 +294,7 @@ module _ {r : Rules} {l : Listing} {b : OrderBook} {e : Order} {m k : List ℕ} 
         let positions = both .1 m′ k′ (at-buy .money) (at-buy .pieces) in
         let counted : b′ .turnover
         ≡ set t ((buyOf e o) .security)
-        (counting (piecesOf (row r ((buyOf e o) .security)) n) (sumFor (row r ((buyOf e o) .security)) p n)
+        (counting (piecesOf (row r ((buyOf e o) .security)) n) (valueFor (row r ((buyOf e o) .security)) p n)
         (turnoverAt t ((buyOf e o) .security))) =
         turnover ∙ ap (λ (x : ℕ). set t x q) (sym (security-is (e .side)))
         ∙ ap (set t ((buyOf e o) .security)) (at-buy .turnover) in

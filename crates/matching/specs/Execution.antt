@@ -7,10 +7,10 @@ use lib.ListN.{length}
 use Rattle.market.specs.declared.Order.{Order}
 use Rattle.market.specs.declared.Listing.{Listing}
 use Rattle.market.specs.declared.Turnover.{Turnover}
-use Rattle.market.specs.Limits.{columns, market, maxCodes, maxLots, maxPieces, maxPrice, maxRate, maxSum, moneyLimit}
-use Rattle.market.specs.Limits.{numbersPerTrade}
+use Rattle.market.specs.Limits.{columns, market, maxCodes, maxLots, maxPieces, maxPrice, maxRate, maxSum, maxValue}
+use Rattle.market.specs.Limits.{moneyLimit, numbersPerTrade}
 use Rattle.market.specs.Day.{account, cell, withLots}
-use Rattle.market.specs.Needs.{blocks, bothFees, closingPrice, piecesOf, priceOr, proceeds, sumFor, withFee}
+use Rattle.market.specs.Needs.{blocks, bothFees, closingPrice, piecesOf, priceOr, proceeds, sumFor, valueFor, withFee}
 use Rattle.market.specs.Positions.{change, counting, pay, receive}
 use Rattle.market.specs.Parts.{ListingOk}
 use Rattle.positions.specs.Payable.{Payable}
@@ -31,12 +31,12 @@ pub record Reckoned (l : Listing) (t : Turnover) (o : Order) (n : ℕ) : Type 0 
   pub top : o .lots ≤ maxLots
   pub part : n ≤ o .lots
 
--- Q and T are within what a day can trade, and so are these pieces and this sum within what a trade can
-pub record Countable (t : Turnover) (pieces sum : ℕ) : Type 0 where
+-- Q and T are within what a day can trade, and so are these pieces and this value within what a trade can
+pub record Countable (t : Turnover) (pieces value : ℕ) : Type 0 where
   pub roomQ : t .pieces ≤ maxPieces * maxCodes
-  pub roomT : t .money ≤ maxPrice * (maxPieces * maxCodes)
+  pub roomT : t .value ≤ maxPrice * (maxPieces * maxCodes)
   pub few : pieces ≤ maxPieces
-  pub low : sum ≤ maxPrice * maxPieces
+  pub low : value ≤ maxValue
 
 -- the money after a trade whose sum is this, where the buyer's need falls by fall
 abbrev pub moneyAfter : Listing → Order → Order → ℕ → ℕ → List ℕ → List ℕ
@@ -70,7 +70,7 @@ pub record Executable (l : Listing) (t : Turnover) (b s : Order) (p n i : ℕ) (
     pub settles : Settles l b s (fallWith l t b n) (sumFor (l .row) p n) (piecesOf (l .row) n) m k
     pub reckoned : Reckoned l t b n
     pub price : p ≤ maxPrice
-    pub counts : Countable t (piecesOf (l .row) n) (sumFor (l .row) p n)
+    pub counts : Countable t (piecesOf (l .row) n) (valueFor (l .row) p n)
     pub lent : numbersPerTrade * i + numbersPerTrade ≤ length v
 
 -- and have traded them: positions, trade list, and Q and T with the trade
@@ -79,4 +79,4 @@ pub record Executes (l : Listing) (t : Turnover) (b s : Order) (p n i : ℕ) (m 
   pub money : m′ ≡ moneyAfter l b s (fallWith l t b n) (sumFor (l .row) p n) m
   pub pieces : k′ ≡ piecesAfter b s (piecesOf (l .row) n) k
   pub list : v′ ≡ tradeWritten i (tradeAs b s p n (sumFor (l .row) p n)) v
-  pub turnover : r ≡ counting (piecesOf (l .row) n) (sumFor (l .row) p n) t
+  pub turnover : r ≡ counting (piecesOf (l .row) n) (valueFor (l .row) p n) t

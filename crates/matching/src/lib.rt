@@ -3,6 +3,7 @@
 use amounts::account_cell;
 use amounts::cell_of;
 use amounts::fee_of;
+use amounts::money_for;
 use amounts::need_of;
 use amounts::pieces_of;
 use market::Kind;
@@ -16,11 +17,10 @@ use positions::transfer;
 ghost use mathlib.Core.Path.{_≡_};
 ghost use Prim.Native.Nat.{_+_, _*_, _-_, _≤_, _<_, min};
 ghost use lib.ListN.{length};
-ghost use Rattle.market.specs.Limits.{maxWaiting, numbersPerTrade};
-ghost use Rattle.market.specs.Tests.{removeAt};
+ghost use Rattle.market.specs.Limits.{numbersPerTrade};
 ghost use Rattle.market.specs.Day.{withLots};
 ghost use Rattle.market.specs.View.{firstOrders};
-ghost use Rattle.market.specs.Needs.{piecesOf, priceOr, sumFor};
+ghost use Rattle.market.specs.Needs.{priceOr};
 ghost use Rattle.market.specs.Positions.{counting};
 ghost use Rattle.market.specs.Matching.{better as isBetter, buyOf, fits as doesFit, fitting, fittingLots, ifBuy};
 ghost use Rattle.market.specs.Matching.{opposite as areOpposite, priceOf, reaches as doesReach, sellOf};
@@ -174,13 +174,13 @@ pub fn with_lots(o: Order, lots: u64) -> Order
 }
 
 // Each trade adds to Q and T.
-fn counted(old: Turnover, pieces: u64, sum: u64) -> Turnover
-    requires { ⌜ Countable old pieces sum ⌝ }
-    ensures { λ r. ⌜ r ≡ counting pieces sum old ⌝ }
+fn counted(old: Turnover, pieces: u64, value: u64) -> Turnover
+    requires { ⌜ Countable old pieces value ⌝ }
+    ensures { λ r. ⌜ r ≡ counting pieces value old ⌝ }
 {
     Turnover {
         pieces: old.pieces + pieces,
-        money: old.money + sum,
+        value: old.value + value,
     }
 }
 
@@ -284,10 +284,11 @@ pub fn execute(
 {
     let fall = fall_of(listing, turnover, buy, lots);
     let sold = pieces_of(listing.row, lots);
-    let sum = price * sold;
+    let value = price * sold;
+    let sum = money_for(listing.row, value);
     write_trade(trades, number, buy, sell, price, lots, sum);
     settle(money, pieces, listing, buy, sell, fall, sum, sold);
-    counted(turnover, sold, sum)
+    counted(turnover, sold, value)
 }
 
 // A trade is of as many lots as both orders have.

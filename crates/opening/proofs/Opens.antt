@@ -1,4 +1,4 @@
--- The answers of an opening: 17, 18 with its place, 22, or the opened day.
+-- The answers of an opening: 17, 18 with its place, 23, 22, or the opened day.
 use Prim.Native.Nat.{ℕ, _<_}
 use native.Mathlib.Omega.{arith}
 use mathlib.Core.Path.{_≡_}
@@ -7,9 +7,10 @@ use borrow.Author.Tests.{ne-eqb}
 use Rattle.market.specs.declared.Answer.the-variants.{Done}
 use Rattle.market.specs.declared.Outcome.{Outcome}
 use Rattle.market.specs.declared.Rules.{Rules}
-use Rattle.market.specs.Tests.{_=?_}
+use Rattle.market.specs.Tests.{_=?_, allBelow}
+use Rattle.market.specs.Day.{row}
 use Rattle.market.specs.View.{view}
-use Rattle.market.specs.Sound.{countsSound, rateSound}
+use Rattle.market.specs.Sound.{countsSound, nominalSound, rateSound}
 use Rattle.market.specs.Opening.{opened, opening, wrongLine}
 use Rattle.market.specs.Contract.{Opens}
 use Rattle.opening.specs.Opening.{RefusedOpening}
@@ -28,11 +29,19 @@ module _ (r : Rules) (o : Outcome) where
       let wrong : (wrongLine r =? 0) ≡ false = ne-eqb (wrongLine r) 0 (λ none. omega arith) in
       record { answer = rw (e, wrong, w) (h .answer); state = rw (e, wrong) (h .state) }
 
-  pub opens-rate : counts ≡ true → wrongLine r ≡ 0 → rateSound (r .rate) ≡ false → RefusedOpening 22 0 o → Opens r o
-  unfolding opening
-  opens-rate e w q h = record { answer = rw (e, w, q) (h .answer); state = rw (e, w, q) (h .state) }
+  abbrev nominals : Bool
+  nominals = allBelow (r .securities) (λ s. nominalSound (row r s))
 
-  pub opens-day : counts ≡ true → wrongLine r ≡ 0 → rateSound (r .rate) ≡ true → o .answer ≡ Done 0 0 0 0
-      → view (o .state) ≡ opened r → Opens r o
+  pub opens-nominal : counts ≡ true → wrongLine r ≡ 0 → nominals ≡ false → RefusedOpening 23 0 o → Opens r o
   unfolding opening
-  opens-day e w q answer state = record { answer = rw (e, w, q) answer; state = rw (e, w, q) state }
+  opens-nominal e w m h = record { answer = rw (e, w, m) (h .answer); state = rw (e, w, m) (h .state) }
+
+  pub opens-rate : counts ≡ true → wrongLine r ≡ 0 → nominals ≡ true → rateSound (r .rate) ≡ false
+      → RefusedOpening 22 0 o → Opens r o
+  unfolding opening
+  opens-rate e w m q h = record { answer = rw (e, w, m, q) (h .answer); state = rw (e, w, m, q) (h .state) }
+
+  pub opens-day : counts ≡ true → wrongLine r ≡ 0 → nominals ≡ true → rateSound (r .rate) ≡ true
+      → o .answer ≡ Done 0 0 0 0 → view (o .state) ≡ opened r → Opens r o
+  unfolding opening
+  opens-day e w m q answer state = record { answer = rw (e, w, m, q) answer; state = rw (e, w, m, q) state }

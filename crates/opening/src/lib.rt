@@ -13,6 +13,7 @@ use market::Turnover;
 use market::accepted;
 use soundness::counts_sound;
 use soundness::row_sound;
+use soundness::table_sound;
 ghost use mathlib.Core.Path.{_≡_};
 ghost use Prim.Native.Nat.{_≤_};
 ghost use Rattle.market.specs.Limits.{maxSecurities};
@@ -63,7 +64,7 @@ fn opened(rules: Rules) -> State
         phase: Phase::Open,
         turnover: [Turnover {
             pieces: 0,
-            money: 0,
+            value: 0,
         }; 16],
         rate: rules.rate,
     }
@@ -81,6 +82,7 @@ pub fn refused_opening(number: u64, place: u64) -> Outcome
             currency: 0,
             lot: 0,
             step: 0,
+            nominal: 0,
         }; 16],
         rate: 0,
     };
@@ -100,6 +102,11 @@ pub fn opening(rules: Rules) -> Outcome
     let wrong = first_wrong(rules);
     if wrong != 0 {
         return refused_opening(18, wrong);
+    }
+    let table = rules.table;
+    // Every line is in range, so that a security that isn't sound has a wrong nominal.
+    if !table_sound(rules.currencies, rules.securities, table) {
+        return refused_opening(23, 0);
     }
     if MAX_RATE < rules.rate {
         return refused_opening(22, 0);

@@ -12,16 +12,16 @@ use Rattle.market.specs.declared.Listing.{Listing}
 use Rattle.market.specs.declared.TimeInForce.{TimeInForce}
 use Rattle.market.specs.declared.TimeInForce.the-variants.{FillOrKill, ImmediateOrCancel, Kept}
 use Rattle.market.specs.declared.Turnover.{Turnover}
-use Rattle.market.specs.Limits.{maxLots, maxPrice, maxSecurities}
+use Rattle.market.specs.Limits.{maxLots, maxSecurities}
 use Rattle.market.specs.declared.Rules.{Rules}
 use Rattle.market.specs.Day.{Day, turnoverAt}
 use Rattle.market.specs.View.{dayOf}
 use Rattle.market.specs.Sound.{priceSound}
 use Rattle.market.specs.Calls.{entryOf}
 use Rattle.market.specs.Questions.{Question, ask, entryQuestions, fillable, firstNo, orderQuestions, roomFor}
-use Rattle.market.proofs.Logic.{and-true, within-high}
+use Rattle.market.proofs.Logic.{within-high}
 use Rattle.market.specs.Parts.{listing}
-use Rattle.market.proofs.Known.{listing-ok}
+use Rattle.market.proofs.Known.{listing-ok, price-bounds}
 use Rattle.market.proofs.Questions.{AllYes, all-yes, hides, passes}
 use Rattle.market.proofs.View.{first-length}
 use Rattle.matching.specs.Orders.{waitingIn}
@@ -33,13 +33,12 @@ use Rattle.orders.specs.Entering.{orderNo, roomWith}
 -- the need of an entry with a good price can be reckoned
 pub reckonable : (l : Listing) (t : Turnover) {codes p : ℕ} {m : Ticket} → Askable l codes p m
     → priceSound (l .row) (m .price) ≡ true → Reckonable l t (entryWith codes p m)
-unfolding priceSound
 reckonable l t {codes} {p} {m} a price = record {
   participant = a .participant;
   security = a .security;
   currency = a .currency;
   listing = a .listing;
-  limit = within-high 1 maxPrice (m .price) ((and-true price) .0);
+  limit = (price-bounds (l .row) (m .price) price) .1;
   top = a .top;
 }
 

@@ -15,7 +15,7 @@ use Rattle.market.specs.Limits.{maxCodes, maxLots, maxPrice, maxSecurities, max
 use Rattle.market.specs.declared.Rules.{Rules}
 use Rattle.market.specs.Day.{Asset, Day, Money, Pieces, row, noOrder, orderAt, turnoverAt}
 use Rattle.market.specs.View.{dayOf}
-use Rattle.market.specs.Needs.{limitOf, needAt, piecesOf, sumFor}
+use Rattle.market.specs.Needs.{limitOf, needAt, piecesOf, valueFor}
 use Rattle.market.specs.Positions.{settle}
 use Rattle.market.specs.TradeList.{lotsOf, tradeOf}
 use Rattle.market.specs.Matching.{Best, found, none}
@@ -23,7 +23,7 @@ use Rattle.market.specs.Pairing.{Paired, Terms, counterparty, firstBuy, firstSe
 use Rattle.market.specs.Pairing.{takeBoth}
 use Rattle.market.proofs.Lists.{All, all-at, all-map, sum-remove}
 use Rattle.market.specs.Parts.{listing}
-use Rattle.market.proofs.Needs.{pieces-small, sum-small}
+use Rattle.market.proofs.Needs.{pieces-small, value-small}
 use Rattle.market.proofs.Known.{OrderOk, listing-ok}
 use Rattle.market.proofs.Matching.{Chosen, best-chosen}
 use Rattle.market.proofs.Pairs.{Meeting, meet-apart, meets, pairs-no-buy, pairs-no-sell, pairs-one}
@@ -204,7 +204,7 @@ module _ {g : Start} {m k v : List ℕ} {b : OrderBook} {made : ℕ} (h : Going 
 
     -- Q and T are as they were, and the trade is within what a trade can be
     countable : Countable (turnoverAt (b .turnover) (buy .security)) (piecesOf (row (g .r) (buy .security)) n)
-        (sumFor (row (g .r) (buy .security)) p n)
+        (valueFor (row (g .r) (buy .security)) p n)
     countable =
         let q = st .turnovers (buy .security) (buyOk .security) in
         let lot = st .backed .rulesOk .lot (buy .security) (buyOk .security) in
@@ -215,7 +215,7 @@ module _ {g : Start} {m k v : List ℕ} {b : OrderBook} {made : ℕ} (h : Going 
           roomQ = omega (arith, q .top);
           roomT = omega (arith, q .top, q .high);
           few = pieces-small x n lot lots;
-          low = sum-small x p n lot (omega (arith, fair, limit)) lots;
+          low = value-small x p n lot (omega (arith, fair, limit)) lots;
         }
 
     pub going-lent : numbersPerTrade * made + numbersPerTrade ≤ length v

@@ -33,11 +33,11 @@ fn put_phase(out: &mut [u8], at: usize, phase: Phase) -> usize
     }
 }
 
-fn put_turnover(out: &mut [u8], at: usize, security: u64, pieces: u64, money: u64) -> usize
+fn put_turnover(out: &mut [u8], at: usize, security: u64, pieces: u64, value: u64) -> usize
     requires { ⌜ at + turnoverRoom ≤ length (now out) ⌝ }
     ensures { λ r. ⌜ Adds turnoverRoom (now (out .entry)) at (now (out .exit)) r ⌝ }
 {
-    let numbers = [security, pieces, money];
+    let numbers = [security, pieces, value];
     put_worded(out, at, b"TURNOVER", &numbers)
 }
 
@@ -51,7 +51,7 @@ fn put_turnovers(out: &mut [u8], at: usize, turnovers: [Turnover; 16], securitie
     let mut i: u64 = 0;
     while i < securities {
         let turnover = turnovers[i as usize];
-        end = put_turnover(out, end, i, turnover.pieces, turnover.money);
+        end = put_turnover(out, end, i, turnover.pieces, turnover.value);
         i += 1;
     }
     end

@@ -1,6 +1,8 @@
-// A script: a text that drives every call of a trading day. Its lines are those of a day file and a few words besides; its
-// commands go through the public calls. What it prints is put into a lent buffer, part by part.
+// A script: a text that drives every call of a trading day. Its lines are those of a day file and a few words besides, and
+// its heading may say more; heading and commands go through the public calls. What it prints is put into a lent buffer, part
+// by part.
 mod ending;
+mod opening;
 mod words;
 
 use dayfile::MAX_TEXT;
@@ -8,7 +10,6 @@ use dayfile::begin;
 use dayfile::is_done;
 use ending::put_end;
 use heading::MALFORMED;
-use heading::opened_with;
 use lines::Line;
 use market::Answer;
 use market::Call;
@@ -16,13 +17,12 @@ use market::LENT_AT_LEAST;
 use market::MAX_MEMBERS;
 use market::MIN_MEMBERS;
 use market::State;
+use opening::heading_of;
 use printing::put_answer;
 use printing::put_trades;
 use reading::Reading;
 use reading::command_at;
-use words::Heading;
 use words::Word;
-use words::heading_at;
 use words::word_at;
 ghost use Prim.Native.Nat.{_+_, _≤_, _<_};
 ghost use lib.ListN.{length};
@@ -165,8 +165,8 @@ fn command(text: &[u8], p: Play, trades: &mut [u64], out: &mut [u8]) -> Play
     }
 }
 
-// A heading as a day file has it.
-fn start_plain(text: &[u8], out: &mut [u8]) -> Play
+// A text over 65,536 bytes: its answer is a day file's.
+fn too_long(text: &[u8], out: &mut [u8]) -> Play
     requires { ⌜ room ≤ length (now out) ⌝ }
     ensures { λ r. ⌜ Starts (now (out .entry)) r (now (out .exit)) ⌝ }
 {
@@ -188,13 +188,9 @@ pub fn start(text: &[u8], out: &mut [u8]) -> Play
     ensures { λ r. ⌜ Starts (now (out .entry)) r (now (out .exit)) ⌝ }
 {
     if MAX_TEXT < text.len() {
-        return start_plain(text, out);
+        return too_long(text, out);
     }
-    let word = heading_at(text);
-    let Heading::Rated(participants, currencies, securities, rate, from) = word else {
-        return start_plain(text, out);
-    };
-    let heading = opened_with(text, from, participants, currencies, securities, rate);
+    let heading = heading_of(text);
     let outcome = heading.outcome;
     let answer = outcome.answer;
     let state = outcome.state;

@@ -8,7 +8,7 @@ ghost use lib.ListN.{length};
 
 const COMMA: u8 = b',';
 
-const LINE_END: u8 = b'\n';
+pub const LINE_END: u8 = b'\n';
 
 pub enum Word {
     // From here on so many numbers are lent.
@@ -38,14 +38,14 @@ fn is_same(a: &[u8], b: &[u8]) -> bool {
 // No line of a script has more numbers.
 const MAX_NUMBERS: usize = 4;
 
-// The numbers of a line, each behind a comma, and how many there are.
-struct Numbers {
-    count: usize,
-    list: [u64; 4],
+// The numbers of a line, each behind a comma, and how many there are; 0 in the places after them.
+pub struct Numbers {
+    pub count: usize,
+    pub list: [u64; 4],
 }
 
 // The numbers from `from` to the line's end; none where something else stands there.
-fn numbers_from(line: &[u8], from: usize) -> Numbers
+pub fn numbers_from(line: &[u8], from: usize) -> Numbers
     requires { ⌜ from ≤ length (now line) ⌝ }
 {
     let none = Numbers {
@@ -83,29 +83,6 @@ fn lend_word(line: &[u8], end: usize) -> Word
         return Word::Other;
     }
     Word::Lend(numbers.list[0])
-}
-
-// What an `H` line with a rate says, and where its text goes on; a day file's `H` has none.
-pub enum Heading {
-    Rated(u64, u64, u64, u64, usize),
-    Other,
-}
-
-pub fn heading_at(text: &[u8]) -> Heading {
-    let end = bytes::scan::find(text, 0, text.len(), LINE_END);
-    let line = &text[..end];
-    if line.len() == 0 {
-        return Heading::Other;
-    }
-    if line[0] != b'H' {
-        return Heading::Other;
-    }
-    let numbers = numbers_from(line, 1);
-    if numbers.count != 4 {
-        return Heading::Other;
-    }
-    let v = numbers.list;
-    Heading::Rated(v[0], v[1], v[2], v[3], end + 1)
 }
 
 // A line's word, where it has that word's fields.

@@ -43,7 +43,7 @@ blocks-top : (side : Side) (l : Listing) (price lots : ℕ) → ListingOk l → 
 unfolding blocks withFee piecesOf
 blocks-top Buy l price lots a b c =
     let sum = sumFor (l .row) price lots in
-    omega (arith, sum-small (l .row) price lots (a .lot) b c, fee-within (l .rate) sum (a .rate))
+    omega (arith, sum-small (l .row) price lots (a .lot) (a .nominal) b c, fee-within (l .rate) sum (a .rate))
 blocks-top Sell l price lots a b c = le-trans (mul-le-mul c (a .lot)) (lit≤ tt)
 
 pub need-top : (r : Rules) (t : List Turnover) (o : Order) → Reckonable r t o → need r t o ≤ maxNeed

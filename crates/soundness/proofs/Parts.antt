@@ -19,7 +19,7 @@ use Rattle.market.specs.View.{view}
 use Rattle.market.specs.Parts.{ListingOk, listing}
 use Rattle.market.specs.Codes.{given, numbered, rising}
 use Rattle.market.specs.Needs.{limitOf}
-use Rattle.market.specs.Sound.{countsSound, kindSound, rowSound, lotsSound, orderSound, rulesSound}
+use Rattle.market.specs.Sound.{countsSound, kindSound, lotsSound, orderSound, rowSound, rulesSound, securitySound}
 use Rattle.market.specs.Sound.{sound, turnoverSound}
 use Rattle.market.proofs.Logic.{and-true, below-all, below-intro, both, never, within-high, within-low}
 use Rattle.market.proofs.Known.{RulesOk, listing-ok, rules-ok}
@@ -108,12 +108,13 @@ module _ (d : Day) (needs : List ℕ) where
   orders-hold e r h = record { right = rw (sym e) (sym r); added = λ t. h }
 
 -- where a day is orderly, so it is as far as its orders are asked about
-row-wide : (currencies : ℕ) (l : Security) → currencies ≤ maxCurrencies → rowSound currencies l ≡ true
-    → rowSound maxCurrencies l ≡ true
+row-wide : (currencies : ℕ) (l : Security) → currencies ≤ maxCurrencies → securitySound currencies l ≡ true
+    → securitySound maxCurrencies l ≡ true
 unfolding rowSound
 row-wide currencies l h e =
-    let a = and-true e in
-    both (lt-ltb (l .currency) maxCurrencies (omega (arith, ltb-true (l .currency) currencies (a .0)))) (a .1)
+    let whole = and-true e in
+    let a = and-true (whole .0) in
+    both (both (lt-ltb (l .currency) maxCurrencies (omega (arith, ltb-true (l .currency) currencies (a .0)))) (a .1)) (whole .1)
 
 abbrev pub ordersOf : State → Day
 ordersOf s =
@@ -130,7 +131,7 @@ orders-orderly s e =
     let n = and-true (counts .0) in
     both (a .0) (both (both (n .0) (both (both refl refl) ((and-true (n .1)) .1)))
     (both (below-intro (s .securities) _ (λ i h. row-wide (s .currencies) (row ((view s) .rules) i) (y .rules .currencies)
-    (below-all (s .securities) (λ j. rowSound (s .currencies) (row ((view s) .rules) j)) (table .0) i h)))
+    (below-all (s .securities) (λ j. securitySound (s .currencies) (row ((view s) .rules) j)) (table .0) i h)))
     (table .1)))
 
 -- an order of an unknown security, and what is left to ask of one that is known

@@ -19,7 +19,8 @@ use Rattle.market.specs.Day.{withMoney, withPieces}
 use Rattle.market.specs.View.{view}
 use Rattle.market.specs.Codes.{codesSound, given, rising}
 use Rattle.market.specs.Positions.{totalAt}
-use Rattle.market.specs.Sound.{blockedSound, countsSound, needsAt, orderSound, rateSound, rowSound, totalsSound, turnoverSound}
+use Rattle.market.specs.Sound.{blockedSound, countsSound, needsAt, orderSound, rateSound, securitySound, totalsSound}
+use Rattle.market.specs.Sound.{turnoverSound}
 
 -- the day of a state with these positions in place of its own
 abbrev pub lentDay : State → List ℕ → List ℕ → Day
@@ -30,7 +31,7 @@ unfoldable pub orderly : Day → Bool
 orderly d =
     length (d .waiting) ≤? maxWaiting
     and countsSound (d .rules .participants) (d .rules .currencies) (d .rules .securities)
-    and allBelow (d .rules .securities) (λ s. rowSound (d .rules .currencies) (row (d .rules) s))
+    and allBelow (d .rules .securities) (λ s. securitySound (d .rules .currencies) (row (d .rules) s))
     and rateSound (d .rules .rate)
     and codesSound d
     and allBelow (d .rules .securities) (λ s. turnoverSound (given d) (turnoverAt (d .turnover) s))

@@ -10,6 +10,7 @@ use market::MAX_CODES;
 use market::MAX_CURRENCIES;
 use market::MAX_LOT;
 use market::MAX_LOTS;
+use market::MAX_NOMINAL;
 use market::MAX_PARTICIPANTS;
 use market::MAX_PIECES;
 use market::MAX_PRICE;
@@ -17,6 +18,7 @@ use market::MAX_RATE;
 use market::MAX_SECURITIES;
 use market::MAX_STEP;
 use market::MAX_WAITING;
+use market::MIN_NOMINAL;
 use market::MONEY_LIMIT;
 use market::Order;
 use market::PIECES_LIMIT;
@@ -35,7 +37,8 @@ ghost use Rattle.market.specs.Limits.{columns as allColumns, maxCodes, maxParti
 ghost use Rattle.market.specs.Tests.{_and_, allBelow, known};
 ghost use Rattle.market.specs.Day.{noSecurity, turnoverAt};
 ghost use Rattle.market.specs.View.{view};
-ghost use Rattle.market.specs.Sound.{countsSound, kindSound, rowSound, lotsSound, sound, turnoverSound};
+ghost use Rattle.market.specs.Sound.{countsSound, kindSound, lotsSound, nominalSound, rowSound, securitySound, sound};
+ghost use Rattle.market.specs.Sound.{turnoverSound};
 ghost use Rattle.soundness.specs.Parts.{Checked, columnSound, lentDay, needCellFor, orderly, ordersDay};
 
 // Needs of pieces stand this many cells behind those of money.
@@ -65,15 +68,35 @@ pub fn row_sound(currencies: u64, row: Security) -> bool
     within(1, MAX_STEP, row.step)
 }
 
-fn table_sound(currencies: u64, securities: u64, table: [Security; 16]) -> bool
+// In range, or 0 for none.
+fn nominal_sound(row: Security) -> bool
+    ensures { λ r. ⌜ r ≡ nominalSound row ⌝ }
+{
+    if row.nominal == 0 {
+        return true;
+    }
+    within(MIN_NOMINAL, MAX_NOMINAL, row.nominal)
+}
+
+fn security_sound(currencies: u64, row: Security) -> bool
+    ensures { λ r. ⌜ r ≡ securitySound currencies row ⌝ }
+{
+    if !row_sound(currencies, row) {
+        return false;
+    }
+    nominal_sound(row)
+}
+
+// Every security in range, its nominal too.
+pub fn table_sound(currencies: u64, securities: u64, table: [Security; 16]) -> bool
     requires { ⌜ securities ≤ maxSecurities ⌝ }
-    ensures { λ r. ⌜ r ≡ allBelow securities (λ s. rowSound currencies (getD table s noSecurity)) ⌝ }
+    ensures { λ r. ⌜ r ≡ allBelow securities (λ s. securitySound currencies (getD table s noSecurity)) ⌝ }
 {
     let lines = securities as usize;
     let mut i: usize = 0;
     while i < lines {
         let row = table[i];
-        if !row_sound(currencies, row) {
+        if !security_sound(currencies, row) {
             return false;
         }
         i += 1;
@@ -88,10 +111,10 @@ fn turnover_sound(codes: u64, turnover: Turnover) -> bool
     if MAX_PIECES * codes < turnover.pieces {
         return false;
     }
-    if turnover.money < turnover.pieces {
+    if turnover.value < turnover.pieces {
         return false;
     }
-    turnover.money <= MAX_PRICE * turnover.pieces
+    turnover.value <= MAX_PRICE * turnover.pieces
 }
 
 fn turnovers_sound(codes: u64, securities: u64, turnovers: [Turnover; 16]) -> bool

@@ -115,6 +115,7 @@ fn table() -> [Security; 16] {
         currency: 0,
         lot: 10,
         step: 5,
+        nominal: 0,
     }; 16]
 }
 
@@ -154,6 +155,7 @@ fn line_past_the_count() {
         currency: 9,
         lot: 0,
         step: 0,
+        nominal: 1,
     };
     after(
         b"a wrong line past the count is not read",
@@ -194,6 +196,7 @@ fn asked_line(label: &[u8], currency: u64, lot: u64, step: u64) {
         currency,
         lot,
         step,
+        nominal: 0,
     };
     asked(label, s);
 }
@@ -204,10 +207,35 @@ fn unsound_lines() {
     asked_line(b"step 0: 1", 0, 10, 0);
 }
 
-fn asked_turnover(label: &[u8], codes: u64, pieces: u64, money: u64) {
+// A security of currency 0, lot 10 and step 5 with this nominal.
+fn bond(nominal: u64) -> Security {
+    Security {
+        currency: 0,
+        lot: 10,
+        step: 5,
+        nominal,
+    }
+}
+
+fn asked_nominal(label: &[u8], nominal: u64) {
+    let mut s = day();
+    s.table[1] = bond(nominal);
+    asked(label, s);
+}
+
+fn nominals() {
+    asked_nominal(b"nominal 1: 1", 1);
+    asked_nominal(b"nominal 9999: 1", 9999);
+    asked_nominal(b"nominal 10000, sound", 10000);
+    asked_nominal(b"nominal 500000, sound", 500000);
+    asked_nominal(b"nominal 500001: 1", 500001);
+    asked_nominal(b"the largest nominal: 1", 18446744073709551615);
+}
+
+fn asked_turnover(label: &[u8], codes: u64, pieces: u64, value: u64) {
     let mut s = day();
     s.codes = codes;
-    s.turnover[1] = Turnover { pieces, money };
+    s.turnover[1] = Turnover { pieces, value };
     asked(label, s);
 }
 
@@ -219,7 +247,7 @@ fn unsound_turnover() {
         10000001,
         10000001,
     );
-    asked_turnover(b"less money than pieces: 1", 1, 10, 9);
+    asked_turnover(b"T below Q: 1", 1, 10, 9);
     asked_turnover(b"more than 1000000 a piece: 1", 1, 10, 10000001);
 }
 
@@ -272,22 +300,53 @@ fn kinds_while_open() {
     asked_kind(b"a closing order while open: 1", Kind::Closing);
 }
 
-// The same order in a phase, with Q pieces and T money of its security traded.
-fn in_phase(phase: Phase, kind: Kind, pieces: u64, money: u64) -> State {
+// The same order in a security with a nominal; and a buy of 10 lots at 9950, with this blocked.
+fn asked_percent(label: &[u8], price: u64) {
+    let mut s = waiting(sell_order(3, 1, 0, 10, Kind::Kept(price)));
+    s.table[0] = bond(10000);
+    asked(label, s);
+}
+
+fn asked_percent_buy(label: &[u8], blocked: u64) {
+    let mut s = with_money(day(), 0, 0, blocked);
+    s.table[0] = bond(100001);
+    s.codes = 4;
+    s.orders[0] = Order {
+        code: 3,
+        participant: 0,
+        side: Side::Buy,
+        security: 0,
+        lots: 10,
+        kind: Kind::Kept(9950),
+    };
+    s.count = 1;
+    asked(label, s);
+}
+
+fn percent_orders() {
+    asked_percent(b"200 percent, sound", 20000);
+    asked_percent(b"above 200 percent: 1", 20005);
+    asked_percent_buy(b"9950099 blocked for 9950099.5, sound", 9950099);
+    asked_percent_buy(b"a unit more: 1", 9950100);
+    asked_percent_buy(b"price times pieces blocked: 1", 995000);
+}
+
+// The same order in a phase, with this Q and T of its security.
+fn in_phase(phase: Phase, kind: Kind, pieces: u64, value: u64) -> State {
     let s = waiting(sell_order(3, 1, 0, 10, kind));
     let cash = s.money;
     let stock = s.pieces;
     let mut t = state_of(s, phase, cash, stock, book_of(s));
-    t.turnover[0] = Turnover { pieces, money };
+    t.turnover[0] = Turnover { pieces, value };
     t
 }
 
-fn asked_closing(label: &[u8], kind: Kind, pieces: u64, money: u64) {
-    asked(label, in_phase(Phase::Closing, kind, pieces, money));
+fn asked_closing(label: &[u8], kind: Kind, pieces: u64, value: u64) {
+    asked(label, in_phase(Phase::Closing, kind, pieces, value));
 }
 
-fn asked_collecting(label: &[u8], kind: Kind, pieces: u64, money: u64) {
-    asked(label, in_phase(Phase::Collecting, kind, pieces, money));
+fn asked_collecting(label: &[u8], kind: Kind, pieces: u64, value: u64) {
+    asked(label, in_phase(Phase::Collecting, kind, pieces, value));
 }
 
 fn kinds_while_closing() {
@@ -403,10 +462,11 @@ fn with_unread() -> State {
         currency: 99,
         lot: 0,
         step: 0,
+        nominal: 18446744073709551615,
     };
     s.turnover[2] = Turnover {
         pieces: 18446744073709551615,
-        money: 0,
+        value: 0,
     };
     s.orders[0] = sell_order(18446744073709551615, 99, 99, 0, Kind::Closing);
     s
@@ -658,7 +718,7 @@ fn closing_near_the_limit(label: &[u8], traded: u64) {
     s.codes = 999999;
     s.turnover[0] = Turnover {
         pieces: 9999990000000,
-        money: traded,
+        value: traded,
     };
     let s = after(label, enter_closing_order(s, 0, Side::Buy, 0, 1));
     money(b"free and blocked money of the buyer", s, 0);
@@ -668,6 +728,39 @@ fn closing_prices() {
     closing_near_the_limit(b"closing price 1000000", 9999990000000000000);
     closing_near_the_limit(b"a half below it goes up", 9999985000005000000);
     closing_near_the_limit(b"one less: 999999", 9999985000004999999);
+}
+
+// A sound closing price of 1000000 for 10000000 pieces of nominal 500000, at the highest rate: no sum is larger.
+fn largest_closing() -> State {
+    let row = Security {
+        currency: 0,
+        lot: 1000,
+        step: 1,
+        nominal: 500000,
+    };
+    let o = opening(2, 1, 1, [row; 16], 1000);
+    let o = increase_money(o.state, 0, 0, 505000000000000);
+    let o = increase_pieces(o.state, 1, 0, 10000000);
+    let o = start_closing(o.state);
+    let mut s = o.state;
+    s.codes = 1;
+    s.turnover[0] = Turnover {
+        pieces: 10000000,
+        value: 10000000000000,
+    };
+    s
+}
+
+fn largest_trade() {
+    let mut trades = [7u64; 1088];
+    let o = enter_closing_order(largest_closing(), 0, Side::Buy, 0, 10000);
+    let s = after(b"the largest buy", o);
+    money(b"all is blocked", s, 0);
+    let o = enter_closing_order(s, 1, Side::Sell, 0, 10000);
+    let s = after(b"the largest trade", end_session(o.state, &mut trades));
+    numbers(b"its sum", &trades, 0);
+    money(b"what the seller gets", s, 16);
+    money(b"what the market gets", s, 256);
 }
 
 fn unsound_collecting() {
@@ -698,7 +791,7 @@ fn collected() -> State {
     let mut s = kept(s, 0, buy(0, 100, 20));
     s.turnover[0] = Turnover {
         pieces: 10,
-        money: 950,
+        value: 950,
     };
     s
 }
@@ -714,7 +807,7 @@ fn one_auction() {
     numbers(b"the numbers after it", &trades, 8);
     money(b"free and blocked money of the buyer", s, 0);
     let t = s.turnover[0];
-    position(b"Q and T stay", t.pieces, t.money);
+    position(b"Q and T stay", t.pieces, t.value);
 }
 
 // Closing buys 3 and 4, sell 5.
@@ -757,10 +850,12 @@ fn all_pairs() {
 fn states() {
     unsound_counts();
     unsound_lines();
+    nominals();
     unsound_turnover();
     order_names();
     order_lots();
     kinds_while_open();
+    percent_orders();
     kinds_while_closing();
     kinds_while_collecting();
     lists();
@@ -794,6 +889,7 @@ fn main() {
     group_codes();
     closing_codes();
     closing_prices();
+    largest_trade();
     unsound_session();
     collecting_codes();
     unsound_collecting();

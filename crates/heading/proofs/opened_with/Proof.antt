@@ -17,7 +17,7 @@ returns : tie.Need-returns
 returns c =
     let lines = c .before .before .before in
     let a = lines .before .before .args in
-    lines-wrong (a .participants) (a .currencies) (a .rate) (lines .securities-at .ensures) (c .before .if1 .taken)
+    lines-wrong (a .participants) (a .currencies) (lines .securities-at .ensures) (c .before .if1 .taken)
     (c .wrong-heading .ensures)
 
 opening-requires : tie.Need-opening-requires
@@ -36,16 +36,16 @@ lines c = (right c) .before .before
 few : (c : tie.After-place-of) → (lines c) .before .before .args .securities ≤ maxText
 few c = omega (arith, (lines c) .securities-at .ensures .few ((right c) .if1 .left), (lines c) .before .before .pre)
 
-add-t14 : tie.Need-add-t14
-add-t14 c = omega (arith, few c, place-small (c .before .opening .ensures), c .place-of .ensures)
+add-t13 : tie.Need-add-t13
+add-t13 c = omega (arith, few c, place-small (c .before .opening .ensures), c .place-of .ensures)
 
-add-t15 : tie.Need-add-t15
-add-t15 c = omega (arith, few c)
+add-t14 : tie.Need-add-t14
+add-t14 c = omega (arith, few c)
 
 returns-2 : tie.Need-returns-2
 returns-2 c =
     let a = (lines c) .before .before .args in
-    lines-open (a .participants) (a .currencies) (a .rate) ((lines c) .securities-at .ensures) ((right c) .if1 .left)
+    lines-open (a .participants) (a .currencies) ((lines c) .securities-at .ensures) ((right c) .if1 .left)
     (c .before .opening .ensures) (c .place-of .ensures)
 
 pub opened-with-spec : {M : Type 1} → statement M
@@ -57,6 +57,6 @@ opened-with-spec =
     returns
     opening-requires
     place-of-requires
+    add-t13
     add-t14
-    add-t15
     returns-2)
