@@ -10,6 +10,9 @@ use crate::engine::{Engine, Position, Traded};
 /// The sum on which a fee is the rate itself.
 const FULL_SUM: i128 = 100_000;
 
+/// Hundredths of a percent in a whole nominal.
+const FULL_NOMINAL: i128 = 10_000;
+
 /// What a check found wrong, in words.
 pub type Checked = Result<(), String>;
 
@@ -146,9 +149,10 @@ impl Book {
         let line = self.securities[security];
         let currency = line.currency as usize;
         let pieces = i128::from(trade.lots) * i128::from(line.lot_size);
+        let value = i128::from(trade.price) * pieces;
         let sum = i128::from(trade.sum);
-        expect(sum == i128::from(trade.price) * pieces, || {
-            format!("the sum of {trade:?} is not price × pieces")
+        expect(sum == sum_of(value, line), || {
+            format!("the sum of {trade:?} is not that of {pieces} pieces at its price")
         })?;
         let fee = self.fee(sum);
         self.money[buyer][currency] -= sum + fee;
@@ -158,7 +162,7 @@ impl Book {
         self.pieces[buyer][security] += pieces;
         if self.phase == Phase::Open {
             self.traded[security].pieces += pieces;
-            self.traded[security].turnover += sum;
+            self.traded[security].turnover += value;
         }
         self.take_lots(Side::Buy, buyer, trade.buy_code, trade.lots)?;
         self.take_lots(Side::Sell, seller, trade.sell_code, trade.lots)
@@ -372,7 +376,7 @@ impl Book {
                 WaitingKind::Closing => self.closing_price(order.security),
             };
             let currency = line.currency as usize;
-            let sum = price * pieces;
+            let sum = sum_of(price * pieces, line);
             match order.side {
                 Side::Buy => needs.money[order.participant][currency] += sum + self.fee(sum),
                 Side::Sell => needs.pieces[order.participant][order.security] += pieces,
@@ -395,6 +399,17 @@ impl Book {
         let halves = 2 * traded.turnover + traded.pieces;
         halves.checked_div(2 * traded.pieces).unwrap_or(0)
     }
+}
+
+/// Of a value in prices: money already, or hundredths of a percent of the
+/// nominal, which is taken for each full 10,000 of them, and in part for the
+/// rest, rounded down.
+fn sum_of(value: i128, line: SecurityLine) -> i128 {
+    if line.nominal == 0 {
+        return value;
+    }
+    let nominal = i128::from(line.nominal);
+    value / FULL_NOMINAL * nominal + value % FULL_NOMINAL * nominal / FULL_NOMINAL
 }
 
 /// Blocked amounts by participant, then currency or security.

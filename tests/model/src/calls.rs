@@ -24,6 +24,7 @@ pub mod refusal {
     pub const TEXT_TOO_LONG: u64 = 20;
     pub const CODE_GIVEN: u64 = 21;
     pub const RATE: u64 = 22;
+    pub const NOMINAL: u64 = 23;
 }
 
 #[derive(Clone, Copy, PartialEq, Eq, Debug)]
@@ -69,6 +70,9 @@ pub struct SecurityLine {
     pub currency: u64,
     pub lot_size: u64,
     pub price_step: u64,
+    /// Of a piece, in minor units, or 0 for none. With one, prices are in
+    /// hundredths of a percent of it.
+    pub nominal: u64,
 }
 
 #[derive(Clone, PartialEq, Eq, Debug)]

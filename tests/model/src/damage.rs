@@ -151,14 +151,50 @@ const RATES: [&str; 22] = [
     "1000,0",
 ];
 
+/// A security's nominal in range and out of it, in good form and in bad, and
+/// with more fields than there are.
+const NOMINALS: [&str; 26] = [
+    "0",
+    "1",
+    "9999",
+    "9999",
+    "10000",
+    "10000",
+    "12345",
+    "100000",
+    "500000",
+    "500000",
+    "500001",
+    "500001",
+    "1000000",
+    "9999999999999999",
+    "10000000000000000",
+    "00000000000010000",
+    "",
+    "00",
+    "010000",
+    "+10000",
+    "-1",
+    "1e5",
+    "K",
+    " 10000",
+    "10000,",
+    "10000,0",
+];
+
+/// Of good form, but out of range.
+const WRONG_NOMINALS: [&str; 5] = ["1", "9999", "500001", "1000000", "9999999999999999"];
+
 /// Headings in the longer forms of this level and of later ones.
-const LONGER_HEADINGS: [&str; 6] = [
+const LONGER_HEADINGS: [&str; 8] = [
     "H,1,1,1,0\nS,0,10,5",
     "H,1,1,1,1000\nS,0,10,5",
     "H,1,1,1,1000,59\nS,0,10,5",
     "H,1,1,1,1000,59,0\nS,0,10,5",
     "H,1,1,1\nS,0,10,5,0",
     "H,1,1,2\nS,0,10,5\nS,0,10,5,10000",
+    "H,1,1,2,1000\nS,0,10,5,500000\nS,0,10,5",
+    "H,1,1,1\nS,0,10,5,10000,10000",
 ];
 
 /// Of good form, but out of range in every heading.
@@ -225,17 +261,62 @@ pub fn with_script_lines(random: &mut Random, text: Vec<u8>) -> Vec<u8> {
 /// Another rate in the heading, or none; at times a wrong count or line too.
 pub fn with_rate(random: &mut Random, text: Vec<u8>) -> Vec<u8> {
     let mut lines = lines_of(&text);
-    let mut fields: Vec<&[u8]> = lines[0].split(|&byte| byte == b',').take(4).collect();
-    if random.chance(90) {
-        fields.push(random.pick(&RATES).as_bytes());
-    }
-    lines[0] = fields.join(&b',');
+    lines[0] = if random.chance(90) {
+        with_last_field(&lines[0], random.pick(&RATES))
+    } else {
+        fields_of_a_day(&lines[0]).join(&b',')
+    };
     match random.below(4) {
         0..=1 => wrong_security(random, &mut lines),
         2 => change_heading_count(random, &mut lines),
         _ => {}
     }
     lines.join(&b'\n')
+}
+
+/// Other nominals in the heading, or none; at times a wrong line, rate or count
+/// too, which shows what is asked first.
+pub fn with_nominals(random: &mut Random, text: Vec<u8>) -> Vec<u8> {
+    let mut lines = lines_of(&text);
+    let nominals_percent = random.pick(&[30, 100]);
+    let wrong_percent = random.pick(&[0, 0, 40]);
+    let heading = lines.iter_mut().skip(1);
+    for line in heading.take_while(|line| line.starts_with(b"S,")) {
+        if random.chance(wrong_percent) {
+            *line = random.pick(&WRONG_SECURITIES).into();
+        }
+        if random.chance(nominals_percent) {
+            change_nominal(random, line);
+        }
+    }
+    match random.below(8) {
+        0..=2 => lines[0] = with_last_field(&lines[0], "1001"),
+        3 => change_heading_count(random, &mut lines),
+        _ => {}
+    }
+    lines.join(&b'\n')
+}
+
+/// Another nominal, mostly in good form and often out of range, or none.
+fn change_nominal(random: &mut Random, line: &mut Vec<u8>) {
+    *line = match random.below(10) {
+        0..=1 => fields_of_a_day(line).join(&b','),
+        2 => with_last_field(line, random.pick(&NOMINALS)),
+        3..=5 => with_last_field(line, random.pick(&WRONG_NOMINALS)),
+        _ => with_last_field(line, random.pick(&["0", "10000", "54321", "500000"])),
+    };
+}
+
+/// The fields that a line of the heading has in a day file.
+fn fields_of_a_day(line: &[u8]) -> Vec<&[u8]> {
+    line.split(|&byte| byte == b',').take(4).collect()
+}
+
+/// These and one more: a rate or a nominal.
+fn with_last_field(line: &[u8], field: &str) -> Vec<u8> {
+    let mut fields = fields_of_a_day(line);
+    fields.push(field.as_bytes());
+    fields.join(&b',')
 }
 
 fn script_line_place(random: &mut Random, lines: &Lines) -> usize {
@@ -458,13 +539,12 @@ pub fn oddity(random: &mut Random) -> Vec<u8> {
 
 /// A script that never was good.
 pub fn script_oddity(random: &mut Random) -> Vec<u8> {
-    match random.below(16) {
+    match random.below(12) {
         0 => headed(random, b"SHOW\n"),
         1 => headed(random, b"LENT,0\n"),
         2..=3 => longer_heading(random),
         4 => odd_heading(random),
         5..=6 => many_securities(random),
-        7..=10 => rated_heading(random),
         _ => random_script_lines(random),
     }
 }
@@ -476,17 +556,23 @@ fn longer_heading(random: &mut Random) -> Vec<u8> {
     text
 }
 
-/// Count, rate and line are each at times wrong, which shows what is asked
-/// first.
-fn rated_heading(random: &mut Random) -> Vec<u8> {
-    let participants = random.pick(&["1", "16", "17"]);
+/// Count, rate, lines and nominals are each at times wrong, which shows what is
+/// asked first.
+pub fn asked_heading(random: &mut Random) -> Vec<u8> {
+    let participants = random.pick(&["1", "2", "16", "16", "17"]);
     let any_rate = random.pick(&RATES);
-    let rate = random.pick(&["1001", any_rate]);
-    let wrong = random.pick(&WRONG_SECURITIES);
-    let security = random.pick(&["S,0,10,5", wrong]);
+    let rate = random.pick(&["1001", "1001", "1000", "0", any_rate]);
+    let count = random.within(1, 3);
     let mut text = Vec::new();
-    line(&mut text, &format!("H,{participants},1,1,{rate}"));
-    line(&mut text, security);
+    line(&mut text, &format!("H,{participants},1,{count},{rate}"));
+    for _ in 0..count {
+        let wrong = random.pick(&WRONG_SECURITIES);
+        let security = random.pick(&["S,0,10,5", "S,0,10,5", "S,0,10,5", wrong]);
+        let mut security = security.as_bytes().to_vec();
+        change_nominal(random, &mut security);
+        text.extend(security);
+        text.push(b'\n');
+    }
     line(&mut text, "SHOW");
     text
 }

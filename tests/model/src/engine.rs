@@ -9,6 +9,8 @@ mod questions;
 mod soundness;
 mod trading;
 
+use std::ops::RangeInclusive;
+
 use pairing::all_paired;
 
 use crate::calls::{
@@ -21,13 +23,17 @@ pub const CURRENCY_LIMIT: usize = 4;
 pub const SECURITY_LIMIT: usize = 16;
 pub const LOT_SIZE_LIMIT: u64 = 1_000;
 pub const PRICE_LIMIT: u64 = 1_000_000;
+/// Where prices are hundredths of a percent.
+pub const PERCENT_LIMIT: u64 = 20_000;
+pub const NO_NOMINAL: u64 = 0;
+pub const NOMINALS: RangeInclusive<u64> = 10_000..=500_000;
 pub const LOTS_LIMIT: u64 = 10_000;
 pub const MONEY_LIMIT: u64 = 1_000_000_000_000_000;
 pub const PIECES_LIMIT: u64 = 1_000_000_000_000;
 pub const RATE_LIMIT: u64 = 1_000;
 pub const WAITING_LIMIT: usize = 128;
 pub const CODE_LIMIT: u64 = 1_000_000;
-pub const GROUP_SIZES: std::ops::RangeInclusive<usize> = 2..=8;
+pub const GROUP_SIZES: RangeInclusive<usize> = 2..=8;
 
 /// Numbers of the shortest trade list that suffices: 8 for each of 136 trades.
 pub const LIST_LENGTH: u64 = 1_088;
@@ -38,7 +44,8 @@ pub struct Position {
     pub blocked: u64,
 }
 
-/// What a security traded while open: Q pieces and T money.
+/// What a security traded while open: Q pieces, and T, the price of each of
+/// them added up.
 #[derive(Clone, Copy, PartialEq, Eq, Debug, Default)]
 pub struct Traded {
     pub pieces: u64,
@@ -100,8 +107,20 @@ fn line_in_range(line: &SecurityLine, currencies: usize) -> bool {
         && (1..=PRICE_LIMIT).contains(&line.price_step)
 }
 
+fn nominal_allowed(line: &SecurityLine) -> bool {
+    line.nominal == NO_NOMINAL || NOMINALS.contains(&line.nominal)
+}
+
+/// The highest price of a security, on its step or not.
+pub fn highest_price(line: &SecurityLine) -> u64 {
+    match line.nominal {
+        NO_NOMINAL => PRICE_LIMIT,
+        _ => PERCENT_LIMIT,
+    }
+}
+
 fn price_allowed(line: &SecurityLine, price: u64) -> bool {
-    (1..=PRICE_LIMIT).contains(&price) && price.is_multiple_of(line.price_step)
+    (1..=highest_price(line)).contains(&price) && price.is_multiple_of(line.price_step)
 }
 
 fn count_known(count: u64, limit: usize) -> Option<usize> {
@@ -123,6 +142,8 @@ impl Engine {
                 return Err(Refused { number, place });
             }
         }
+        let nominals_allowed = opening.securities.iter().all(nominal_allowed);
+        ensure(nominals_allowed, refusal::NOMINAL)?;
         ensure(opening.rate <= RATE_LIMIT, refusal::RATE)?;
         let market = Market {
             participants,

@@ -13,7 +13,8 @@ use day::{Day, LONGEST_CALL};
 use crate::calls::{Opening, SecurityLine};
 use crate::damage;
 use crate::engine::{
-    CURRENCY_LIMIT, LOT_SIZE_LIMIT, PARTICIPANT_LIMIT, PRICE_LIMIT, RATE_LIMIT, SECURITY_LIMIT,
+    CURRENCY_LIMIT, LOT_SIZE_LIMIT, NOMINALS, NO_NOMINAL, PARTICIPANT_LIMIT, PERCENT_LIMIT,
+    PRICE_LIMIT, RATE_LIMIT, SECURITY_LIMIT,
 };
 use crate::random::Random;
 use crate::reader::TEXT_LIMIT;
@@ -42,12 +43,14 @@ struct Plan {
     collect_percent: u64,
     phase_calls: u64,
     tariff_percent: u64,
+    nominal_percent: u64,
+    price_edges: u64,
     tight_groups: u64,
     tight_closing_orders: u64,
 }
 
-/// A day file lends nothing, shows nothing of its own, knows no collecting and
-/// no tariff.
+/// A day file lends nothing, shows nothing of its own, knows no collecting, no
+/// tariff and no nominals.
 const SENSIBLE: Plan = Plan {
     length: 2_000,
     orders: 60,
@@ -67,6 +70,8 @@ const SENSIBLE: Plan = Plan {
     collect_percent: 0,
     phase_calls: 0,
     tariff_percent: 0,
+    nominal_percent: 0,
+    price_edges: 0,
     tight_groups: 0,
     tight_closing_orders: 0,
 };
@@ -77,6 +82,8 @@ const SCRIPTED: Plan = Plan {
     collect_percent: 60,
     phase_calls: 1,
     tariff_percent: 75,
+    nominal_percent: 60,
+    price_edges: 2,
     tight_groups: 2,
     tight_closing_orders: 5,
     ..SENSIBLE
@@ -89,10 +96,11 @@ pub fn day_file(seed: u64) -> Vec<u8> {
 
 /// The script of a seed: mostly a day with words of scripts among its calls,
 /// often one with an auction before trading opens; at times with such words
-/// put in anywhere, with another rate, or one that never was good.
+/// put in anywhere, with another rate or nominal, hardly more than a heading,
+/// or one that never was good.
 pub fn script(seed: u64) -> Vec<u8> {
     let mut random = Random::new(!seed);
-    match random.below(17) {
+    match random.below(20) {
         0 => damage::script_oddity(&mut random),
         1..=3 => damage::with_script_lines(&mut random, text(seed, SCRIPTED)),
         4 => {
@@ -104,7 +112,9 @@ pub fn script(seed: u64) -> Vec<u8> {
             damage::damaged(&mut random, text)
         }
         6 => damage::with_rate(&mut random, text(seed, SCRIPTED)),
-        7..=11 => auction_day(random),
+        7 => damage::with_nominals(&mut random, text(seed, SCRIPTED)),
+        8 => damage::asked_heading(&mut random),
+        9..=13 => auction_day(random),
         _ => text(seed, SCRIPTED),
     }
 }
@@ -280,9 +290,7 @@ fn opening(random: &mut Random, plan: Plan, most_participants: u64) -> Opening {
     Opening {
         participants: random.within(1, most_participants),
         currencies,
-        securities: (0..count)
-            .map(|_| security_line(random, currencies))
-            .collect(),
+        securities: security_lines(random, plan, currencies, count as usize),
         rate: rate(random, plan.tariff_percent),
     }
 }
@@ -293,11 +301,34 @@ fn auction_opening(random: &mut Random, plan: Plan) -> Opening {
     Opening {
         participants: random.within(1, 3),
         currencies,
-        securities: (0..count)
-            .map(|_| security_line(random, currencies))
-            .collect(),
+        securities: security_lines(random, plan, currencies, count),
         rate: rate(random, plan.tariff_percent),
     }
+}
+
+/// Where nominals are planned, all securities have one, or any of them. Days
+/// that plan none take no random number for it.
+fn security_lines(
+    random: &mut Random,
+    plan: Plan,
+    currencies: u64,
+    count: usize,
+) -> Vec<SecurityLine> {
+    let nominals = plan.nominal_percent > 0 && random.chance(plan.nominal_percent);
+    let share = if nominals {
+        random.pick(&[100, 100, 50])
+    } else {
+        0
+    };
+    let lines = (0..count).map(|_| {
+        let line = security_line(random, currencies);
+        if share > 0 && random.chance(share) {
+            with_nominal(random, line)
+        } else {
+            line
+        }
+    });
+    lines.collect()
 }
 
 fn security_line(random: &mut Random, currencies: u64) -> SecurityLine {
@@ -307,6 +338,42 @@ fn security_line(random: &mut Random, currencies: u64) -> SecurityLine {
         currency: random.below(currencies),
         lot_size: random.pick(&[1, 10, 10, 100, 1_000, any_lot_size]),
         price_step: random.pick(&[1, 5, 5, 10, 100, 333, 500_000, 1_000_000, any_step]),
+        nominal: NO_NOMINAL,
+    }
+}
+
+/// In range, often at an edge. By most nominals sums are rounded. One of the
+/// steps leaves no price.
+fn with_nominal(random: &mut Random, line: SecurityLine) -> SecurityLine {
+    let (least, greatest) = (*NOMINALS.start(), *NOMINALS.end());
+    let any_nominal = random.within(least, greatest);
+    let any_step = random.within(1, PERCENT_LIMIT);
+    SecurityLine {
+        price_step: random.pick(&[
+            1,
+            1,
+            1,
+            5,
+            7,
+            25,
+            50,
+            333,
+            10_000,
+            PERCENT_LIMIT,
+            PERCENT_LIMIT + 1,
+            any_step,
+        ]),
+        nominal: random.pick(&[
+            least,
+            least + 1,
+            12_345,
+            100_000,
+            greatest - 1,
+            greatest,
+            any_nominal,
+            any_nominal,
+        ]),
+        ..line
     }
 }
 
@@ -332,6 +399,7 @@ fn good_opening(random: &mut Random) -> Opening {
         currency,
         lot_size: 10,
         price_step: 5,
+        nominal: NO_NOMINAL,
     };
     Opening {
         participants: random.within(4, 16),

@@ -70,7 +70,7 @@ impl<'text, const LEVEL: u8> LineReader<'text, LEVEL> {
             self.heading_line(heading_numbers::<LEVEL>)?;
         let mut securities = Vec::new();
         for _ in 0..count {
-            securities.push(self.heading_line(security_line)?);
+            securities.push(self.heading_line(security_line::<LEVEL>)?);
         }
         Ok(Opening {
             participants,
@@ -220,12 +220,17 @@ fn heading_numbers<const LEVEL: u8>(line: &[u8]) -> Option<(u64, u64, u64, u64)>
     fields.end((counts.0, counts.1, counts.2, rate))
 }
 
-fn security_line(line: &[u8]) -> Option<SecurityLine> {
+/// Currency, lot size, price step, and the nominal from its level on.
+fn security_line<const LEVEL: u8>(line: &[u8]) -> Option<SecurityLine> {
     let mut fields = fields_after(b'S', line)?;
     let security = SecurityLine {
         currency: fields.number()?,
         lot_size: fields.number()?,
         price_step: fields.number()?,
+        nominal: match LEVEL {
+            5.. => fields.number_or_0()?,
+            _ => 0,
+        },
     };
     fields.end(security)
 }

@@ -5,7 +5,7 @@ use std::fmt;
 
 use crate::calls::{Answer, Call};
 
-const MOST_REFUSALS: usize = 23;
+const MOST_REFUSALS: usize = 24;
 
 #[derive(Default)]
 pub struct Tally {
@@ -26,6 +26,9 @@ pub struct Tally {
     phases: BTreeMap<String, u64>,
     /// How often a market's account was shown with fees in it.
     pub accounts_with_fees: u64,
+    /// Trades whose sum isn't a whole number of times their price, which only
+    /// a nominal brings about.
+    pub odd_sums: u64,
 }
 
 impl Tally {
@@ -68,7 +71,7 @@ impl Tally {
         for line in output.split(|&byte| byte == b'\n') {
             match line {
                 [b'A', b',', ..] => self.count_answer(line),
-                [b'T', b',', ..] => self.trades += 1,
+                [b'T', b',', ..] => self.count_trade(line),
                 [b'P', b'H', b'A', b'S', b'E', b',', phase @ ..] => self.count_phase(phase),
                 [b'M', b'A', b'R', b'K', b'E', b'T', b',', ..] => self.count_account(line),
                 _ => {}
@@ -83,6 +86,14 @@ impl Tally {
 
     fn count_account(&mut self, line: &[u8]) {
         self.accounts_with_fees += u64::from(!line.ends_with(b",0"));
+    }
+
+    fn count_trade(&mut self, line: &[u8]) {
+        self.trades += 1;
+        let mut fields = line.split(|&byte| byte == b',').rev();
+        let mut number = || fields.next().and_then(crate::reader::number).unwrap_or(0);
+        let (sum, _lots, price) = (number(), number(), number());
+        self.odd_sums += u64::from(!sum.is_multiple_of(price));
     }
 
     fn count_answer(&mut self, line: &[u8]) {
@@ -129,6 +140,13 @@ impl fmt::Display for Tally {
         if self.accounts_with_fees > 0 {
             let count = self.accounts_with_fees;
             write!(out, "\n  market's accounts shown with fees {count}")?;
+        }
+        if self.odd_sums > 0 {
+            let count = self.odd_sums;
+            write!(
+                out,
+                "\n  trades with a sum that only a nominal gives {count}"
+            )?;
         }
         Ok(())
     }

@@ -1,6 +1,8 @@
 //! Writes the heading and calls as lines of a day file or a script.
 
-use crate::calls::{Call, ClosingEntry, Entry, EntryKind, Member, Movement, Opening, Side};
+use crate::calls::{
+    Call, ClosingEntry, Entry, EntryKind, Member, Movement, Opening, SecurityLine, Side,
+};
 
 pub fn write_heading(opening: &Opening, text: &mut Vec<u8>) {
     let Opening {
@@ -11,17 +13,29 @@ pub fn write_heading(opening: &Opening, text: &mut Vec<u8>) {
     } = opening;
     let count = securities.len();
     let counts = format!("H,{participants},{currencies},{count}");
-    // A day file has no rate.
-    match rate {
-        0 => line(text, &counts),
-        _ => line(text, &format!("{counts},{rate}")),
-    }
+    write_longer(&counts, *rate, text);
     for security in securities {
-        let numbers = (security.currency, security.lot_size, security.price_step);
-        line(
-            text,
-            &format!("S,{},{},{}", numbers.0, numbers.1, numbers.2),
-        );
+        write_security(security, text);
+    }
+}
+
+fn write_security(security: &SecurityLine, text: &mut Vec<u8>) {
+    let SecurityLine {
+        currency,
+        lot_size,
+        price_step,
+        nominal,
+    } = security;
+    let numbers = format!("S,{currency},{lot_size},{price_step}");
+    write_longer(&numbers, *nominal, text);
+}
+
+/// A line of the heading with one number more. Where this is 0 the line is
+/// that of a day file, which doesn't have it.
+fn write_longer(written: &str, number: u64, text: &mut Vec<u8>) {
+    match number {
+        0 => line(text, written),
+        _ => line(text, &format!("{written},{number}")),
     }
 }
 

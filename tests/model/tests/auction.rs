@@ -43,6 +43,7 @@ fn collecting(orders: &[Order]) -> Engine {
         currency: 0,
         lot_size: 1,
         price_step: 1,
+        nominal: 0,
     };
     let opening = Opening {
         participants: 2,

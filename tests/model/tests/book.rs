@@ -180,6 +180,48 @@ fn faulty_outputs_with_a_tariff_are_found() {
     }
 }
 
+/// A piece at 9,999 is 19,998.9999: two are 39,997 and three 59,996. One of the
+/// buy's 3 lots trades and costs 19,998 of the 19,999 that its need falls by.
+const PERCENT_TEXT: &str = "H,2,1,1\nS,0,1,1,20001\nR,0,0,59996\nD,1,0,3\n\
+                            B,0,0,9999,3,K\nL,1,0,9999,1,I\n";
+
+fn altered_percent(line: &str, by: &str) -> Result<(), String> {
+    let output = script_output(PERCENT_TEXT.as_bytes());
+    let output = String::from_utf8_lossy(&output);
+    assert!(output.contains(line), "{line} is part of {output}");
+    let altered = output.replacen(line, by, 1);
+    check_printed::<SCRIPT>(PERCENT_TEXT.as_bytes(), altered.as_bytes())
+}
+
+#[test]
+fn prices_in_percent_add_up() {
+    assert_eq!(altered_percent("CODES,2\n", "CODES,2\n"), Ok(()));
+}
+
+/// Each a unit, or by price and pieces what goes by the nominal; the last ones
+/// are T by the sum, and rounded as the sum is.
+#[test]
+fn faulty_outputs_with_prices_in_percent_are_found() {
+    let faults = [
+        ("T,1,2,0,1,0,9999,1,19998\n", "T,1,2,0,1,0,9999,1,19999\n"),
+        ("T,1,2,0,1,0,9999,1,19998\n", "T,1,2,0,1,0,9999,1,9999\n"),
+        ("M,0,0,1,39997\n", "M,0,0,0,39998\n"),
+        ("M,0,0,1,39997\n", "M,0,0,2,39996\n"),
+        ("M,0,0,1,39997\n", "M,0,0,0,39997\n"),
+        ("M,0,0,1,39997\n", "M,0,0,20000,19998\n"),
+        ("M,1,0,19998,0\n", "M,1,0,19999,0\n"),
+        ("M,1,0,19998,0\n", "M,1,0,9999,0\n"),
+        ("TURNOVER,0,1,9999\n", "TURNOVER,0,1,19998\n"),
+        ("TURNOVER,0,1,9999\n", "TURNOVER,0,2,9999\n"),
+    ];
+    for (line, by) in faults {
+        assert!(
+            altered_percent(line, by).is_err(),
+            "{line} replaced by {by}"
+        );
+    }
+}
+
 /// While open no waiting buy reaches a waiting sell: here the buy, shown as
 /// if it had waited beside the sell that it meets.
 #[test]

@@ -15,7 +15,7 @@ fn every_refusal_and_phase_within_reach_is_reached() -> Result<(), String> {
         checked_output::<SCRIPT>(&script(seed), &mut tally)
             .map_err(|fault| format!("seed {seed}: {fault}"))?;
     }
-    for refusal in (2..=12).chain(14..=22) {
+    for refusal in (2..=12).chain(14..=23) {
         assert!(tally.refusals(refusal) > 0, "refusal {refusal}");
     }
     for refusal in [1, 13] {
@@ -30,5 +30,7 @@ fn every_refusal_and_phase_within_reach_is_reached() -> Result<(), String> {
     assert!(auctions > trading, "auctions without a trade");
     let with_fees = tally.accounts_with_fees;
     assert!(with_fees > SCRIPTS, "{with_fees} accounts with fees");
+    let (trades, odd_sums) = (tally.trades, tally.odd_sums);
+    assert!(odd_sums > trades / 10, "{odd_sums} sums by a nominal");
     Ok(())
 }

@@ -6,17 +6,10 @@ use model::dayfile::{output_of, script_output};
 use model::generate::day_file;
 use model::reader::TEXT_LIMIT;
 
-use common::{answers, assert_prints, assert_refusals, printed};
+use common::{answers, assert_ends, assert_prints, assert_refusals, printed};
 
 /// Two participants at 1 %, lot 10 and step 5: two lines.
 const HEADING: [&str; 2] = ["H,2,1,1,1000", "S,0,10,5"];
-
-/// What the lines of the end say after the last answer.
-fn assert_ends(lines: &[&str], expected: &[&str]) {
-    let output = printed(lines);
-    let lines: Vec<&str> = output.lines().collect();
-    assert!(lines.ends_with(expected), "{output}");
-}
 
 /// Any number of 1 to 16 digits is a rate in good form; then 22 above 1,000.
 #[test]

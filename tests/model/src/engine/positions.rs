@@ -1,18 +1,31 @@
 //! Positions: what orders need, block and unblock, and what trades move.
 
-use super::{Engine, Position};
+use super::{Engine, Position, NO_NOMINAL};
 use crate::calls::{Side, Trade, WaitingKind, WaitingOrder};
 
 /// The rate at which a fee would be the whole sum.
 const WHOLE_RATE: u64 = 100_000;
+
+/// The price at which a piece costs its nominal.
+const WHOLE_PRICE: u64 = 10_000;
 
 impl Engine {
     pub(super) fn currency(&self, security: usize) -> usize {
         self.market.securities[security].currency as usize
     }
 
-    fn pieces_in(&self, security: usize, lots: u64) -> u64 {
+    pub(super) fn pieces_in(&self, security: usize, lots: u64) -> u64 {
         lots * self.market.securities[security].lot_size
+    }
+
+    /// What so many lots cost at a price. By a nominal the sum of all lots is
+    /// rounded down, once.
+    fn sum(&self, security: usize, price: u64, lots: u64) -> u64 {
+        let value = price * self.pieces_in(security, lots);
+        match self.market.securities[security].nominal {
+            NO_NOMINAL => value,
+            nominal => value * nominal / WHOLE_PRICE,
+        }
     }
 
     /// What each side of a trade of this sum pays.
@@ -23,7 +36,7 @@ impl Engine {
     /// What a buy of so many lots needs: their sum, and the fee on that sum as
     /// a whole.
     pub fn buy_need(&self, security: usize, price: u64, lots: u64) -> u64 {
-        let sum = price * self.pieces_in(security, lots);
+        let sum = self.sum(security, price, lots);
         sum + self.fee(sum)
     }
 
@@ -79,7 +92,7 @@ impl Engine {
         let security = buy.security;
         let currency = self.currency(security);
         let pieces = self.pieces_in(security, lots);
-        let sum = price * pieces;
+        let sum = self.sum(security, price, lots);
         let fee = self.fee(sum);
         let rest = WaitingOrder {
             lots: buy.lots - lots,

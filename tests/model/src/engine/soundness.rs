@@ -2,9 +2,9 @@
 //! past the counts aren't read.
 
 use super::{
-    line_in_range, price_allowed, Engine, Position, CODE_LIMIT, CURRENCY_LIMIT, LOTS_LIMIT,
-    MONEY_LIMIT, PARTICIPANT_LIMIT, PIECES_LIMIT, PRICE_LIMIT, RATE_LIMIT, SECURITY_LIMIT,
-    WAITING_LIMIT,
+    line_in_range, nominal_allowed, price_allowed, Engine, Position, CODE_LIMIT, CURRENCY_LIMIT,
+    LOTS_LIMIT, MONEY_LIMIT, PARTICIPANT_LIMIT, PIECES_LIMIT, PRICE_LIMIT, RATE_LIMIT,
+    SECURITY_LIMIT, WAITING_LIMIT,
 };
 use crate::calls::{Phase, Side, WaitingKind, WaitingOrder};
 
@@ -35,7 +35,7 @@ impl Engine {
             && market
                 .securities
                 .iter()
-                .all(|line| line_in_range(line, market.currencies))
+                .all(|line| line_in_range(line, market.currencies) && nominal_allowed(line))
             && market.rate <= RATE_LIMIT
     }
 

@@ -81,13 +81,19 @@ impl Engine {
                 Side::Buy => self.settle(order, &counter, waiting_price, lots),
                 Side::Sell => self.settle(&counter, order, waiting_price, lots),
             };
-            let traded = &mut self.state.traded[order.security];
-            traded.pieces += lots * self.market.securities[order.security].lot_size;
-            traded.turnover += trade.sum;
+            self.count(order.security, waiting_price, lots);
             trades.push(trade);
             order.lots -= lots;
             self.take_lots(place, lots);
         }
+    }
+
+    /// T goes by the price, whether or not the sum goes by a nominal too.
+    fn count(&mut self, security: usize, price: u64, lots: u64) {
+        let pieces = self.pieces_in(security, lots);
+        let traded = &mut self.state.traded[security];
+        traded.pieces += pieces;
+        traded.turnover += price * pieces;
     }
 
     fn take_lots(&mut self, place: usize, lots: u64) {

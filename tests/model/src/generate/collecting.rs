@@ -1,6 +1,6 @@
 //! The collecting phase that a script may begin with.
 
-use super::day::Day;
+use super::day::{highest_steps, Day};
 use super::NEVER;
 use crate::calls::{Call, Entry, EntryKind, Phase, Side};
 use crate::engine::PRICE_LIMIT;
@@ -129,16 +129,16 @@ impl Day {
     /// One of the few prices from the base on; an eager buy's is of the upper
     /// half, an eager sell's of the lower.
     fn collected_price(&mut self, side: Side, security: u64) -> u64 {
-        let step = self.engine.securities()[security as usize].price_step;
+        let line = self.engine.securities()[security as usize];
         let base = self.base_steps[security as usize];
-        let prices = (PRICE_LIMIT / step - base + 1).min(self.collecting.prices);
+        let prices = (highest_steps(&line) - base + 1).min(self.collecting.prices);
         let eager = self.random.chance(self.collecting.eager_percent);
         let steps = match side {
             _ if !eager => self.random.below(prices),
             Side::Buy => prices - 1 - self.random.below(prices.div_ceil(2)),
             Side::Sell => self.random.below(prices.div_ceil(2)),
         };
-        (base + steps) * step
+        (base + steps) * line.price_step
     }
 
     /// What the phase doesn't admit.

@@ -2,14 +2,39 @@
 
 use super::collecting::Collecting;
 use super::Plan;
-use crate::calls::{Call, Movement, Opening, Phase};
-use crate::engine::{Engine, LIST_LENGTH, MONEY_LIMIT, PIECES_LIMIT, PRICE_LIMIT};
+use crate::calls::{Call, Movement, Opening, Phase, SecurityLine};
+use crate::engine::{highest_price, Engine, LIST_LENGTH, MONEY_LIMIT, NO_NOMINAL, PIECES_LIMIT};
 use crate::random::Random;
 use crate::reader::TEXT_LIMIT;
 use crate::write::{write_call, write_heading};
 
 /// Room for the longest call: a group of eight members.
 pub(super) const LONGEST_CALL: usize = 700;
+
+/// How high a base lies at most, in steps.
+const HIGHEST_BASE: u64 = 2_000;
+
+/// The whole nominal, in hundredths of a percent.
+const PAR: u64 = 10_000;
+
+/// The highest price in steps. Where the step leaves no price it counts as one,
+/// so that there is something to refuse.
+pub(super) fn highest_steps(line: &SecurityLine) -> u64 {
+    (highest_price(line) / line.price_step).max(1)
+}
+
+/// Not too high; with a nominal mostly near the whole of it, or the highest.
+fn base_steps(random: &mut Random, line: &SecurityLine) -> u64 {
+    let highest = highest_steps(line);
+    let low = random.within(1, highest.min(HIGHEST_BASE));
+    match line.nominal {
+        NO_NOMINAL => low,
+        _ => {
+            let near_par = (PAR / line.price_step).clamp(1, highest);
+            random.pick(&[low, near_par, near_par, highest])
+        }
+    }
+}
 
 /// A day in writing. Prices stay within a few steps of each security's base.
 pub(super) struct Day {
@@ -30,7 +55,7 @@ impl Day {
         let base_steps = opening
             .securities
             .iter()
-            .map(|line| random.within(1, (PRICE_LIMIT / line.price_step).min(2_000)))
+            .map(|line| base_steps(&mut random, line))
             .collect();
         let engine = Engine::open(&opening, false).expect("generated openings are in range");
         Day {
@@ -133,6 +158,7 @@ impl Day {
             plan.spoiled,
             plan.phase_calls,
             plan.tight_groups,
+            plan.price_edges,
         ];
         match self.weighted(&weights) {
             0 => self.write_order(),
@@ -143,7 +169,8 @@ impl Day {
             5 => self.write_movement(),
             6 => self.write_spoiled(),
             7 => self.write_phase_call(),
-            _ => self.write_tight_group(),
+            8 => self.write_tight_group(),
+            _ => self.write_price_edge(),
         }
     }
 

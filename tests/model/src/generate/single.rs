@@ -1,8 +1,8 @@
 //! Sensible orders, cancels and movements, some of them aimed at exact amounts.
 
-use super::day::Day;
+use super::day::{highest_steps, Day};
 use crate::calls::{Call, ClosingEntry, Entry, EntryKind, Movement, Side};
-use crate::engine::{Engine, LOTS_LIMIT, MONEY_LIMIT, PIECES_LIMIT, PRICE_LIMIT};
+use crate::engine::{Engine, LOTS_LIMIT, MONEY_LIMIT, PIECES_LIMIT};
 
 /// How far prices lie from their base.
 const FURTHEST_STEPS: u64 = 4;
@@ -61,7 +61,7 @@ impl Day {
     /// On the step, within a few steps of the base. Orders that aren't to
     /// cross keep to their own side of it.
     pub(super) fn price(&mut self, side: Side, security: u64) -> u64 {
-        let step = self.engine.securities()[security as usize].price_step;
+        let line = self.engine.securities()[security as usize];
         let base = self.base_steps[security as usize];
         let crosses = self.random.chance(self.plan.crossing_percent);
         let rises = match side {
@@ -71,11 +71,11 @@ impl Day {
         };
         let distance = self.random.below(FURTHEST_STEPS);
         let steps = if rises {
-            (base + 1 + distance).min(PRICE_LIMIT / step)
+            (base + 1 + distance).min(highest_steps(&line))
         } else {
             base.saturating_sub(distance).max(1)
         };
-        steps * step
+        steps * line.price_step
     }
 
     pub(super) fn entry(&mut self) -> Entry {
@@ -115,13 +115,13 @@ impl Day {
 
     /// A price that every waiting counter order fits.
     pub(super) fn furthest_price(&self, side: Side, security: u64) -> u64 {
-        let step = self.engine.securities()[security as usize].price_step;
+        let line = self.engine.securities()[security as usize];
         let base = self.base_steps[security as usize];
         let steps = match side {
-            Side::Buy => (base + FURTHEST_STEPS).min(PRICE_LIMIT / step),
+            Side::Buy => (base + FURTHEST_STEPS).min(highest_steps(&line)),
             Side::Sell => base.saturating_sub(FURTHEST_STEPS).max(1),
         };
-        steps * step
+        steps * line.price_step
     }
 
     pub(super) fn fitting(&self, engine: &Engine, entry: &Entry) -> u64 {

@@ -1,8 +1,8 @@
 //! Calls with a number at an edge.
 
-use super::day::Day;
+use super::day::{highest_steps, Day};
 use crate::calls::{Call, Member};
-use crate::engine::{LOTS_LIMIT, PRICE_LIMIT};
+use crate::engine::{highest_price, LOTS_LIMIT, PRICE_LIMIT};
 
 /// Numbers at, just below and just above the limits.
 const EDGES: [u64; 32] = [
@@ -44,12 +44,32 @@ impl Day {
     pub(super) fn spoil_member(&mut self, member: &mut Member) {
         match self.random.below(6) {
             0 => member.lots = self.random.pick(&[0, LOTS_LIMIT, LOTS_LIMIT + 1]),
-            1 => member.price = self.random.pick(&[0, member.price + 1, PRICE_LIMIT + 1]),
+            1 => {
+                let line = self.engine.securities()[member.security as usize];
+                let too_high = highest_price(&line) + 1;
+                member.price = self.random.pick(&[0, member.price + 1, too_high]);
+            }
             2 => member.security = self.engine.securities().len() as u64,
             3 => member.lots = (member.lots * 10).min(LOTS_LIMIT),
             4 => member.price = self.random.pick(&EDGES),
             _ => member.lots = self.random.pick(&EDGES),
         }
+    }
+
+    /// A price at the highest or just above it, on the step or off it, by a
+    /// nominal or not.
+    pub(super) fn write_price_edge(&mut self) {
+        let mut entry = self.entry();
+        let line = self.engine.securities()[entry.security as usize];
+        let highest = highest_steps(&line) * line.price_step;
+        entry.price = self.random.pick(&[
+            highest,
+            highest + line.price_step,
+            highest_price(&line),
+            highest_price(&line) + 1,
+            PRICE_LIMIT,
+        ]);
+        self.add(Call::Enter(entry));
     }
 
     /// A sensible call with one or more of its numbers spoiled; more than one

@@ -18,6 +18,14 @@ pub fn assert_prints(lines: &[&str], expected: &[&str]) {
     assert_eq!(printed, expected);
 }
 
+/// What the lines print last. Not every test needs it.
+#[allow(dead_code)]
+pub fn assert_ends(lines: &[&str], expected: &[&str]) {
+    let output = printed(lines);
+    let lines: Vec<&str> = output.lines().collect();
+    assert!(lines.ends_with(expected), "{output}");
+}
+
 /// The answers that the lines get after a good heading, without its own.
 pub fn answers(heading: &[&str], lines: &[&str]) -> Vec<String> {
     let printed = printed(&[heading, lines].concat());

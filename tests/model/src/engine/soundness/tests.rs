@@ -5,7 +5,10 @@ use crate::calls::{
     refusal, refused, Call, ClosingEntry, Entry, EntryKind, Movement, Opening, Phase, SecurityLine,
     Side, Trade, WaitingKind,
 };
-use crate::engine::{Engine, CODE_LIMIT, LIST_LENGTH, MONEY_LIMIT, PIECES_LIMIT, RATE_LIMIT};
+use crate::engine::{
+    Engine, CODE_LIMIT, LIST_LENGTH, LOTS_LIMIT, LOT_SIZE_LIMIT, MONEY_LIMIT, NO_NOMINAL,
+    PIECES_LIMIT, PRICE_LIMIT, RATE_LIMIT,
+};
 
 fn entry(participant: u64, side: Side, price: u64, lots: u64) -> Call {
     Call::Enter(Entry {
@@ -43,10 +46,15 @@ fn opened() -> Engine {
 }
 
 fn opened_at(rate: u64) -> Engine {
+    opened_by(NO_NOMINAL, rate)
+}
+
+fn opened_by(nominal: u64, rate: u64) -> Engine {
     let line = SecurityLine {
         currency: 0,
         lot_size: 10,
         price_step: 5,
+        nominal,
     };
     let opening = Opening {
         participants: 2,
@@ -69,7 +77,10 @@ fn trading() -> Engine {
 }
 
 fn trading_at(rate: u64) -> Engine {
-    let mut engine = opened_at(rate);
+    trading_from(opened_at(rate))
+}
+
+fn trading_from(mut engine: Engine) -> Engine {
     let calls = [
         entry(1, Side::Sell, 100, 10),
         entry(0, Side::Buy, 100, 12),
@@ -334,6 +345,79 @@ fn the_account_up_to_the_limit() {
     assert_eq!(more, Err(refused(refusal::TOTAL)));
     engine.state.account[0] += 1;
     assert!(!engine.is_sound());
+}
+
+/// The buy's 2 lots at 100 that wait are 2,469 by the nominal, and 10 lots have
+/// cost 12,345.
+fn trading_in_percent() -> Engine {
+    trading_from(opened_by(12_345, 0))
+}
+
+#[test]
+fn nominals() {
+    let positions = trading_in_percent().state.money;
+    assert_eq!(positions[0][0].blocked, 2_469);
+    assert_eq!(positions[1][0].free, 12_345);
+    assert_each_unsound(
+        trading_in_percent,
+        &[
+            ("nominal 1", |it| it.market.securities[1].nominal = 1),
+            ("nominal 9,999", |it| {
+                it.market.securities[1].nominal = 9_999
+            }),
+            ("nominal 500,001", |it| {
+                it.market.securities[1].nominal = 500_001
+            }),
+            ("nominal near the greatest number", |it| {
+                it.market.securities[0].nominal = u64::MAX
+            }),
+            ("money blocked at another nominal", |it| {
+                it.market.securities[0].nominal = 12_350
+            }),
+            ("money blocked without a nominal", |it| {
+                it.market.securities[0].nominal = NO_NOMINAL
+            }),
+            ("money blocked too much", |it| {
+                it.state.money[0][0].blocked += 1
+            }),
+            ("price above 20,000", |it| {
+                it.state.waiting[1].kind = WaitingKind::Kept(20_005)
+            }),
+            ("price off the step", |it| {
+                it.state.waiting[1].kind = WaitingKind::Kept(19_999)
+            }),
+            ("T above 10^6 by Q", |it| {
+                it.state.traded[0].turnover = 100_000_001
+            }),
+        ],
+    );
+    let mut engine = trading_in_percent();
+    engine.state.waiting[1].kind = WaitingKind::Kept(20_000);
+    engine.market.securities[1].nominal = NO_NOMINAL;
+    assert!(engine.is_sound());
+}
+
+/// Sound leaves T its limit of before, so that a closing price may be above
+/// 20,000: the greatest sum is 5 x 10^14, with its fee 1 % more.
+#[test]
+fn the_greatest_need_of_a_sound_state() {
+    let mut engine = opened_by(500_000, RATE_LIMIT);
+    engine.market.securities[0].lot_size = LOT_SIZE_LIMIT;
+    engine.state.phase = Phase::Closing;
+    engine.state.codes_given = 1;
+    engine.state.traded[0].pieces = 1;
+    engine.state.traded[0].turnover = PRICE_LIMIT;
+    engine.state.money[0][0].free = 505_000_000_000_000;
+    let order = Call::EnterClosing(ClosingEntry {
+        participant: 0,
+        side: Side::Buy,
+        security: 0,
+        lots: LOTS_LIMIT,
+    });
+    run(&mut engine, &[order]);
+    let position = engine.state.money[0][0];
+    assert_eq!((position.free, position.blocked), (0, 505_000_000_000_000));
+    assert!(engine.is_sound());
 }
 
 #[test]
