@@ -7,7 +7,9 @@ use mathlib.Core.Bool.{Bool, true, false}
 use lib.ListN.{length}
 use types.Run.{miss}
 use borrow.Author.Tests.{le-leb, le-ltb, leb-false, leb-true, lt-leb, lt-ltb, ltb-true}
+use Rattle.market.specs.declared.Access.{Access}
 use Rattle.market.specs.declared.Answer.{Answer}
+use Rattle.market.specs.declared.Access.{Access}
 use Rattle.market.specs.declared.Answer.the-variants.{Refused}
 use Rattle.market.specs.declared.Carried.{Carried}
 use Rattle.market.specs.declared.OrderBook.{OrderBook}
@@ -87,15 +89,15 @@ no-call d line.Malformed ms h = refl
 
 -- an order whose questions 4 to 14 are answered "yes"
 module _ (r : Rules) (x : Phase) (t : List Turnover) (count codes : ℕ) (m k : List ℕ) (p : ℕ) (q : Ticket)
-    (f : TimeInForce) where
-  pub entry-none : {n : ℕ} → n ≤ 0 → EntryNo r x t count codes m k p q f n → EntryNo r x t count codes m k p q f 0
+    (a : Access) (f : TimeInForce) where
+  pub entry-none : {n : ℕ} → n ≤ 0 → EntryNo r x t count codes m k p q a f n → EntryNo r x t count codes m k p q a f 0
   entry-none h asks = λ b e1 e2 e3. let e = asks b e1 e2 e3 in omega (arith, e, h)
 
-  pub entry-listed : Known r codes → EntryNo r x t count codes m k p q f 0 → q .security < maxSecurities
+  pub entry-listed : Known r codes → EntryNo r x t count codes m k p q a f 0 → q .security < maxSecurities
   entry-listed known asks =
       let b : OrderBook =
       record { orders = []; count = count; codes = codes; turnover = t; filled = 0; left = 0; trades = 0 } in
-      let qs = entryQuestions (dayOf r x m k b) p q f in
+      let qs = entryQuestions (dayOf r x m k b) p q a f in
       let y = all-yes qs tt (sym (asks b refl refl refl)) in
       omega (arith, ltb-true (q .security) (r .securities) (yes 5 qs y), known .rules .securities)
 

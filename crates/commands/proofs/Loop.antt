@@ -19,6 +19,7 @@ use Rattle.market.specs.declared.TimeInForce.{TimeInForce}
 use Rattle.market.specs.Limits.{lentAtLeast, maxSecurities}
 use Rattle.market.specs.View.{dayOf}
 use Rattle.market.specs.Waiting.{indexOf}
+use Rattle.market.specs.Phases.{orderAccess}
 use Rattle.market.specs.Questions.{entryQuestions, firstNo}
 use Rattle.market.specs.Parts.{Carries, Ready, callOf, listing}
 use Rattle.lines.specs.declared.Line.{Line}
@@ -66,7 +67,7 @@ module _ (says : Line) (ms : List Ticket) (r : Rules) (x : Phase) (m k : List �
     admits : asks m′ k′ (verdict.Enters e w f)
     admits = subst (asks m′ k′) told h
 
-    none : firstNo (entryQuestions (dayOf r x m k b) (admits .2 .participant) (admits .2 .ticket) f) ≡ 0
+    none : firstNo (entryQuestions (dayOf r x m k b) (admits .2 .participant) (admits .2 .ticket) (orderAccess f) f) ≡ 0
     none = sym ((admits .2 .asked) b refl refl refl)
 
     pub does-refuse : fillableIn f (waitingIn b) e ≡ false

@@ -7,12 +7,14 @@ use lib.ListN.{drop, length, take, length-append, length-drop, length-take}
 use Rattle.market.specs.declared.Answer.{Answer}
 use Rattle.market.specs.declared.Carried.{Carried}
 use Rattle.market.specs.declared.Rules.{Rules}
+use Rattle.market.specs.declared.Ticket.{Ticket}
 use Rattle.market.specs.Limits.{lentAtLeast, maxTrades, numbersPerTrade}
 use Rattle.market.specs.Day.{Day}
 use Rattle.market.specs.View.{dayOf}
 use Rattle.market.specs.Answers.{Result, numbersOf}
+use Rattle.lines.specs.declared.Line.{Line}
 use Rattle.reading.specs.declared.Reading.{Reading}
-use Rattle.reading.specs.Commands.{Reads}
+use Rattle.reading.specs.Commands.{Reads, yield}
 use Rattle.reading.proofs.Yields.{yield-few}
 use Rattle.printing.specs.Buffer.{Puts, lineRoom}
 use Rattle.printing.specs.Lines.{answerLine, flatLines}
@@ -20,10 +22,10 @@ use Rattle.printing.proofs.Lines.{answer-length}
 use Rattle.printing.proofs.Buffer.{drop-further, puts-none, puts-then}
 use Rattle.printing.proofs.Runs.{flat-lines}
 use Rattle.commands.specs.Command.{Does, carried}
-use Rattle.commands.specs.Output.{commandLines, withRoom, joined, outputsFrom}
+use Rattle.commands.specs.Output.{carriedOut, commandLines, withRoom, joined, outputsFrom, textAfter}
 use Rattle.commands.specs.declared.Stand.{Stand}
 use Rattle.commands.specs.Stand.{Going, Onward, room}
-use Rattle.commands.proofs.Rounds.{outputs-next}
+use Rattle.commands.proofs.Rounds.{carried-then, outputs-next, text-then}
 use Rattle.commands.proofs.WithRoom.{with-room-next}
 
 -- a command's trades have room in the list and in the buffer
@@ -119,6 +121,12 @@ command-next text r m k s before after lent m′ k′ list′ c o end g h enough
       whole = moved before after _ _ _ (s .filled) end p (ap joined next);
       fits = moved before after _ _ _ (s .filled) end p fits;
       past = p .past;
+      count = 1;
+      day =
+          does .day
+          ∙ ap (λ (says : Line). (carried d says (c .members)) .day) (reads .says)
+          ∙ ap (λ (ms : List Ticket). (carried d ((yield (drop (s .at) text)) .says) ms) .day) (reads .members);
+      rest = reads .rest;
     }
   where
     d : Day
@@ -162,12 +170,15 @@ onward-none text r m k s out g h = record {
   whole = refl;
   fits = refl;
   past = refl;
+  count = 0;
+  day = refl;
+  rest = refl;
 }
 
 pub onward-then : {text : List ℕ} {r : Rules} {m k : List ℕ} {s : Stand} {out₀ m₁ k₁ : List ℕ} {s₁ : Stand}
     {out₁ m₂ k₂ : List ℕ} {s₂ : Stand} {out₂ : List ℕ} → Onward text r m k s out₀ m₁ k₁ s₁ out₁
     → Onward text r m₁ k₁ s₁ out₁ m₂ k₂ s₂ out₂ → Onward text r m k s out₀ m₂ k₂ s₂ out₂
-onward-then {out₀ = out₀} {s₁ = s₁} {out₁ = out₁} {s₂ = s₂} a b = record {
+onward-then {text} {r} {m} {k} {s} {out₀} {m₁} {k₁} {s₁} {out₁} {s₂ = s₂} a b = record {
   going = b .going;
   size = b .size ∙ a .size;
   filled = b .filled;
@@ -175,4 +186,12 @@ onward-then {out₀ = out₀} {s₁ = s₁} {out₁ = out₁} {s₂ = s₂} a b 
   whole = b .whole ∙ a .whole;
   fits = b .fits ∙ a .fits;
   past = b .past ∙ drop-further out₁ out₀ (s₁ .filled) (s₂ .filled) (b .forward) (a .past);
+  count = a .count + b .count;
+  day =
+      b .day
+      ∙ ap (λ (d : Day). carriedOut (b .count) d (drop (s₁ .at) text)) (a .day)
+      ∙ ap (carriedOut (b .count) (carriedOut (a .count) (dayOf r (s .phase) m k (s .book)) (drop (s .at) text))) (a .rest)
+      ∙ sym (carried-then (a .count) (b .count) (dayOf r (s .phase) m k (s .book)) (drop (s .at) text));
+  rest =
+      b .rest ∙ ap (textAfter (b .count)) (a .rest) ∙ sym (text-then (a .count) (b .count) (drop (s .at) text));
 }

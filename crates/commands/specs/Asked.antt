@@ -21,6 +21,7 @@ use Rattle.market.specs.Parts.{Ready, listing}
 use Rattle.lines.specs.declared.Line.{Line}
 use Rattle.lines.specs.declared.Line.the-variants as line
 use Rattle.reserves.specs.Reserve.{Movable}
+use Rattle.market.specs.Phases.{orderAccess}
 use Rattle.orders.specs.Entering.{EntryNo, Known, entryWith}
 use Rattle.waiting.specs.Appending.{Appendable, Appends}
 use Rattle.session.specs.Asking as closing
@@ -43,7 +44,7 @@ pub record Admits (says : Line) (r : Rules) (x : Phase) (t : List Turnover) (cou
   pub entry : e ≡ entryWith codes participant ticket
   pub listing : l ≡ listing r (ticket .security)
   pub matched : isCollecting x ≡ false
-  pub asked : EntryNo r x t count codes m k participant ticket f 0
+  pub asked : EntryNo r x t count codes m k participant ticket (orderAccess f) f 0
 
 -- an order whose questions are all answered "yes" and that only waits, on this order book and with this list lent: it can
 -- be appended, and that is what the line does

@@ -27,6 +27,15 @@ outputsBy (suc rounds) d line (x ∷ t) =
 unfoldable pub outputsFrom : Day → ℕ → List ℕ → List (List ℕ)
 outputsFrom d line t = outputsBy (suc (length t)) d line t
 
+-- the day after the first n commands of a text, and what is left of the text then
+abbrev pub carriedOut : ℕ → Day → List ℕ → Day
+carriedOut zero d t = d
+carriedOut (suc n) d t = carriedOut n ((carried d ((yield t) .says) ((yield t) .members)) .day) ((yield t) .rest)
+
+abbrev pub textAfter : ℕ → List ℕ → List ℕ
+textAfter zero t = t
+textAfter (suc n) t = textAfter n ((yield t) .rest)
+
 -- outputs one behind another
 abbrev pub joined : List (List ℕ) → List ℕ
 joined [] = []

@@ -10,7 +10,7 @@ use Rattle.market.specs.View.{dayOf}
 use Rattle.market.specs.Parts.{Ready}
 use Rattle.heading.specs.Heading.{maxText}
 use Rattle.commands.specs.declared.Stand.{Stand}
-use Rattle.commands.specs.Output.{withRoom, joined, outputsFrom}
+use Rattle.commands.specs.Output.{carriedOut, withRoom, joined, outputsFrom, textAfter}
 pub use Rattle.commands.specs.Output.{room}
 
 -- what is still to be printed
@@ -38,6 +38,10 @@ pub record Onward (text : List ℕ) (r : Rules) (m k : List ℕ) (s : Stand) (be
   pub fits : take (s′ .filled) after ++ withRoom (length after - s′ .filled) (toPrint text r m′ k′ s′)
       ≡ take (s .filled) before ++ withRoom (length before - s .filled) (toPrint text r m k s)
   pub past : drop (s′ .filled) after ≡ drop (s′ .filled) before
+  -- so many commands were carried out: day and text are the definition's after them
+  pub count : ℕ
+  pub day : dayOf r (s′ .phase) m′ k′ (s′ .book) ≡ carriedOut count (dayOf r (s .phase) m k (s .book)) (drop (s .at) text)
+  pub rest : drop (s′ .at) text ≡ textAfter count (drop (s .at) text)
 
 -- is there a command, and room for it?
 abbrev pub goesOn : ℕ → ℕ → ℕ → ℕ → Bool

@@ -15,6 +15,7 @@ use market::Ticket;
 use market::TimeInForce;
 use market::Turnover;
 use orders::Found;
+use orders::access_of;
 use orders::enter;
 use orders::entry_of;
 use orders::find;
@@ -121,6 +122,7 @@ fn order_asked<'a>(
         pieces,
         participant,
         ticket,
+        access_of(force),
         force,
     );
     if 0 < number {

@@ -9,8 +9,9 @@ use lib.Seq.{getD-set-same, getD-set-other}
 use lib.Dec.{eqb}
 use borrow.Author.Tests.{eqb-true, eqb-false}
 use Rattle.market.specs.Limits.{cells, market}
+use Rattle.market.specs.declared.Asset.{Asset}
 use Rattle.market.specs.declared.Rules.{Rules}
-use Rattle.market.specs.Day.{Position, account, blockedAt, cell, position}
+use Rattle.market.specs.Day.{Position, account, blockedAt, cell, columnsOf, position}
 use Rattle.market.specs.Needs.{only}
 use Rattle.market.specs.Positions.{change, receive, total}
 use Rattle.market.proofs.Amounts.{change-law, length-change, only-add, only-zero, still}
@@ -73,14 +74,14 @@ module _ {l l′ : List Balance} {came went : ℕ → ℕ} (f : Flows l l′ cam
         out = λ k. omega (arith, balance-set (λ (y : Balance). y .out) l′ j k x a inside refl, f .out k);
       }
 
-module _ {r : Rules} {n limit : ℕ} {m : List ℕ} {need : ℕ → ℕ} {l : List Balance} (h : Held r n limit m need)
-    (b : Balanced r n m l) where
+module _ {x : Asset} {r : Rules} {m : List ℕ} {need : ℕ → ℕ} {l : List Balance} (h : Held x r m need)
+    (b : Balanced r (columnsOf x r) m l) where
   -- positions m′ that moved as the balances did
   rebalanced : (m′ : List ℕ) {l′ : List Balance} {came went : ℕ → ℕ} → Flows l l′ came went
-      → ((p c : ℕ) → p < r .participants → c < n
+      → ((p c : ℕ) → p < r .participants → c < columnsOf x r
       → total (position m′ (cell p c)) + went (cell p c) ≡ total (position m (cell p c)) + came (cell p c))
-      → ((c : ℕ) → c < n → account m′ c + went (cell market c) ≡ account m c + came (cell market c))
-      → Balanced r n m′ l′
+      → ((c : ℕ) → c < columnsOf x r → account m′ c + went (cell market c) ≡ account m c + came (cell market c))
+      → Balanced r (columnsOf x r) m′ l′
   rebalanced m′ f members own = record {
     balances = f .size ∙ b .balances;
     agree = λ p c hp hc.
@@ -90,33 +91,33 @@ module _ {r : Rules} {n limit : ℕ} {m : List ℕ} {need : ℕ → ℕ} {l : Li
   }
 
   -- the place of a known cell, and of the market's, among the balances
-  placed : (q e : ℕ) → q < r .participants → e < n → cell q e < length l
+  placed : (q e : ℕ) → q < r .participants → e < columnsOf x r → cell q e < length l
   placed q e hq he = omega (arith, held-cell h q e hq he, b .balances)
 
-  market-placed : (e : ℕ) → e < n → cell market e < length l
+  market-placed : (e : ℕ) → e < columnsOf x r → cell market e < length l
   market-placed e he = omega (arith, h .wide, b .balances)
 
   -- a participant's place is not the market's
-  apart : (q e c a : ℕ) → q < r .participants → e < n → c < n → only (cell q e) (cell market c) a ≡ 0
+  apart : (q e c a : ℕ) → q < r .participants → e < columnsOf x r → c < columnsOf x r → only (cell q e) (cell market c) a ≡ 0
   apart q e c a hq he hc =
       other-place q e market c a (omega (arith, h .wide)) (omega (arith, h .wide)) (λ x y. omega (arith, h .rows))
 
-  apart-too : (q e c a : ℕ) → q < r .participants → e < n → c < n → only (cell market e) (cell q c) a ≡ 0
+  apart-too : (q e c a : ℕ) → q < r .participants → e < columnsOf x r → c < columnsOf x r → only (cell market e) (cell q c) a ≡ 0
   apart-too q e c a hq he hc =
       other-place market e q c a (omega (arith, h .wide)) (omega (arith, h .wide)) (λ x y. omega (arith, h .rows))
 
   -- in a known cell, the total stays
-  pub balanced-same : (q e : ℕ) (f : Position → Position) → q < r .participants → e < n
-      → total (f (position m (cell q e))) ≡ total (position m (cell q e)) → Balanced r n (change m (cell q e) f) l
+  pub balanced-same : (q e : ℕ) (f : Position → Position) → q < r .participants → e < columnsOf x r
+      → total (f (position m (cell q e))) ≡ total (position m (cell q e)) → Balanced r (columnsOf x r) (change m (cell q e) f) l
   balanced-same q e f hq he same =
       rebalanced (change m (cell q e) f) (flows-none l)
       (λ p c hp hc. omega (arith, still total m (cell q e) f (held-inside h q e hq he) same (cell p c)))
       (λ c hc. omega (arith, account-same m (cell q e) c f (held-member h q e hq he)))
 
   -- a free amount comes in, or goes out, and the balance with it
-  pub balanced-add : (q e a : ℕ) (f : Position → Position) → q < r .participants → e < n
+  pub balanced-add : (q e a : ℕ) (f : Position → Position) → q < r .participants → e < columnsOf x r
       → total (f (position m (cell q e))) ≡ total (position m (cell q e)) + a
-      → Balanced r n (change m (cell q e) f) (add l (cell q e) a)
+      → Balanced r (columnsOf x r) (change m (cell q e) f) (add l (cell q e) a)
   balanced-add q e a f hq he gets =
       let i = cell q e in
       rebalanced (change m i f) (flows-add (flows-none l) i a (placed q e hq he))
@@ -125,9 +126,9 @@ module _ {r : Rules} {n limit : ℕ} {m : List ℕ} {need : ℕ → ℕ} {l : Li
       omega (arith, t, only-zero i (cell p c)))
       (λ c hc. omega (arith, account-same m i c f (held-member h q e hq he), apart q e c a hq he hc))
 
-  pub balanced-sub : (q e a : ℕ) (f : Position → Position) → q < r .participants → e < n
+  pub balanced-sub : (q e a : ℕ) (f : Position → Position) → q < r .participants → e < columnsOf x r
       → total (f (position m (cell q e))) + a ≡ total (position m (cell q e))
-      → Balanced r n (change m (cell q e) f) (sub l (cell q e) a)
+      → Balanced r (columnsOf x r) (change m (cell q e) f) (sub l (cell q e) a)
   balanced-sub q e a f hq he pays =
       let i = cell q e in
       rebalanced (change m i f) (flows-sub (flows-none l) i a (placed q e hq he))
@@ -138,7 +139,7 @@ module _ {r : Rules} {n limit : ℕ} {m : List ℕ} {need : ℕ → ℕ} {l : Li
 
   -- of two known places of one column the first pays cost in the way f, the second gets a gain
   module _ (q s e : ℕ) (f : Position → Position) (cost gain : ℕ) (hq : q < r .participants) (hs : s < r .participants)
-      (he : e < n) (pays : total (f (position m (cell q e))) + cost ≡ total (position m (cell q e))) where
+      (he : e < columnsOf x r) (pays : total (f (position m (cell q e))) + cost ≡ total (position m (cell q e))) where
     abbrev paid : List ℕ
     paid = change m (cell q e) f
 
@@ -164,7 +165,7 @@ module _ {r : Rules} {n limit : ℕ} {m : List ℕ} {need : ℕ → ℕ} {l : Li
         ∙ account-same m (cell q e) c f (held-member h q e hq he)
 
     -- all that one pays, the other gets
-    pub balanced-transfer : gain ≡ cost → Balanced r n after (add (sub l (cell q e) cost) (cell s e) gain)
+    pub balanced-transfer : gain ≡ cost → Balanced r (columnsOf x r) after (add (sub l (cell q e) cost) (cell s e) gain)
     balanced-transfer all =
         rebalanced after
         (flows-add (flows-sub (flows-none l) (cell q e) cost (placed q e hq he)) (cell s e) gain (placed s e hs he))
@@ -173,7 +174,7 @@ module _ {r : Rules} {n limit : ℕ} {m : List ℕ} {need : ℕ → ℕ} {l : Li
 
     -- the sum goes from the first to the second, and each pays the fee to the market
     pub balanced-fees : (sum fee : ℕ) → cost ≡ sum + fee → gain + fee ≡ sum
-        → Balanced r n (change after (cell market e) (receive (fee + fee)))
+        → Balanced r (columnsOf x r) (change after (cell market e) (receive (fee + fee)))
         (add (sub (sub (add (sub l (cell q e) sum) (cell s e) sum) (cell q e) fee) (cell s e) fee) (cell market e)
         (fee + fee))
     balanced-fees sum fee costs gains =

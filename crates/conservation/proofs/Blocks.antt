@@ -9,7 +9,9 @@ use Rattle.market.specs.declared.Order.{Order}
 use Rattle.market.specs.declared.Side.{Side}
 use Rattle.market.specs.declared.Side.the-variants.{Buy, Sell}
 use Rattle.market.specs.declared.Rules.{Rules}
-use Rattle.market.specs.Day.{Asset, Day, Money, Pieces, Position, columnsOf, cell, position, positions}
+use Rattle.market.specs.declared.Asset.{Asset}
+use Rattle.market.specs.declared.Asset.the-variants.{Money, Pieces}
+use Rattle.market.specs.Day.{Day, Position, columnsOf, cell, position, positions}
 use Rattle.market.specs.Day.{withPositions, withWaiting}
 use Rattle.market.specs.Needs.{assetOf, columnOf, need, needAt}
 use Rattle.market.specs.Positions.{block, blockFor, change, freeFor, release, releaseFor, total}

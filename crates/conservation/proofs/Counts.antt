@@ -17,6 +17,7 @@ use Rattle.market.specs.TradeList.{Trade, allNumbers, written}
 use Rattle.market.specs.Answers.{Result, numbersOf}
 use Rattle.market.specs.Calls.{Call, cancel, closingOrder, decrease, endCollecting, endSession, entryOf, increase}
 use Rattle.market.specs.Calls.{linked, order, startClosing, startCollecting}
+use Rattle.market.specs.Phases.{orderAccess}
 use Rattle.market.specs.Questions.{enoughLent, firstNo, orderQuestions, questions}
 use Rattle.market.specs.Matching.{fill}
 use Rattle.market.specs.Entry.{admitted, entered, placed, taken}
@@ -58,7 +59,7 @@ take-le (suc n) [] = omega arith
 take-le (suc n) (x ∷ l) = let r = take-le n l in omega arith
 
 order-few : {U : Type 0} {r : Rules} (b : Book) (d : Day) (l : List ℕ) (p : ℕ) (m : Ticket) (k : TimeInForce) → Good U r b d
-    → enoughLent (length l) ≡ true → firstNo (orderQuestions d p m k) ≡ 0
+    → enoughLent (length l) ≡ true → firstNo (orderQuestions d p m (orderAccess k) k) ≡ 0
     → Few (length (d .waiting)) ((taken d (entryOf d p m) k) .trades) l
 unfolding orderQuestions entered placed
 order-few b d l p m k g lent e = go (isCollecting (d .phase)) refl
@@ -69,8 +70,8 @@ order-few b d l p m k g lent e = go (isCollecting (d .phase)) refl
     go : (z : Bool) → isCollecting (d .phase) ≡ z → Few (length (d .waiting)) ((taken d o k) .trades) l
     go true c = rw (taken-waits d o k c) (no-trades _ l)
     go false c =
-        let qs = orderQuestions d p m k in
-        let ok = enter-ok b d p m k g (enters-open k (d .phase) (yes 6 qs (all-yes qs tt e)) c) e in
+        let qs = orderQuestions d p m (orderAccess k) k in
+        let ok = enter-ok b d p m (orderAccess k) k g (enters-open k (d .phase) (yes 6 qs (all-yes qs tt e)) c) e in
         rw (taken-matched d o k c)
         (few (length (d .waiting)) ((fill (admitted d o) o) .trades) l lent (ok .few) (omega (arith, g .standing .room)))
 
@@ -80,7 +81,7 @@ unfolding questions effect placed
 effect-few b d (increase x p column a) l g e = no-trades 0 l
 effect-few b d (decrease x p column a) l g e = no-trades 0 l
 effect-few b d (order p m k) l g e =
-    order-few b d l p m k g (first-yes (enoughLent (length l)) 2 (orderQuestions d p m k) (omega arith) e)
+    order-few b d l p m k g (first-yes (enoughLent (length l)) 2 (orderQuestions d p m (orderAccess k) k) (omega arith) e)
     (order-admitted d l p m k e)
 effect-few b d (cancel p code) l g e = no-trades 0 l
 effect-few {U} {r} b d (linked p n ms) l g e =

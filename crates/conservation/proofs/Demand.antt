@@ -12,7 +12,9 @@ use Rattle.market.specs.declared.State.{State}
 use Rattle.market.specs.Limits.{cells, columns, market, maxSecurities, positionNumbers}
 use Rattle.market.specs.Tests.{sumOf}
 use Rattle.market.specs.declared.Rules.{Rules}
-use Rattle.market.specs.Day.{Asset, Day, Money, Pieces, blockedAt, columnsOf, freeAt, noOrder, noTurnover, orderAt}
+use Rattle.market.specs.declared.Asset.{Asset}
+use Rattle.market.specs.declared.Asset.the-variants.{Money, Pieces}
+use Rattle.market.specs.Day.{Day, blockedAt, columnsOf, freeAt, noOrder, noTurnover, orderAt}
 use Rattle.market.specs.Day.{cell, positions, totalLimit}
 use Rattle.market.specs.View.{view}
 use Rattle.market.specs.Needs.{needAt}
@@ -66,18 +68,18 @@ opened-good r ok = record {
   uncrossed = λ u h. tt;
 }
   where
-    zeros : (n limit : ℕ) → n ≤ columns → Held r n limit (replicate positionNumbers 0) (λ j. 0)
-    zeros n limit wide = record {
+    zeros : (x : Asset) → columnsOf x r ≤ columns → Held x r (replicate positionNumbers 0) (λ j. 0)
+    zeros x wide = record {
       wide = wide;
       rows = ok .participants;
       positions = refl;
       blocked = λ p c hp hc. same-all positionNumbers (blockedAt (cell p c)) 0;
-      topped = λ c hc. omega (arith, zero-total positionNumbers (r .participants) c);
+      topped = λ c hc. omega (arith, zero-total x positionNumbers (r .participants) c);
     }
 
-    held : (x : Asset) → Held r (columnsOf x r) (totalLimit x) (positions x (opened r)) (λ j. 0)
-    held Money = zeros (r .currencies) _ (omega (arith, ok .currencies))
-    held Pieces = zeros (r .securities) _ (ok .securities)
+    held : (x : Asset) → Held x r (positions x (opened r)) (λ j. 0)
+    held Money = zeros Money (omega (arith, ok .currencies))
+    held Pieces = zeros Pieces (ok .securities)
 
     even : (n : ℕ) → Balanced r n (replicate positionNumbers 0) (replicate cells noBalance)
     even n = record {

@@ -7,6 +7,7 @@ use mathlib.Core.Bool.{Bool, true, false, cond}
 use lib.ListN.{length}
 use borrow.Author.Tests.{eqb-false, ne-eqb, ltb-true}
 use Rattle.market.specs.declared.Ticket.{Ticket}
+use Rattle.market.specs.declared.Access.{Access}
 use Rattle.market.specs.declared.Order.{Order}
 use Rattle.market.specs.declared.Phase.the-variants.{Open}
 use Rattle.market.specs.declared.Side.{Side}
@@ -95,19 +96,19 @@ has-room Kept d e h r = omega (arith, ltb-true (length (d .waiting)) maxWaiting 
 has-room ImmediateOrCancel d e h r = omega arith
 has-room FillOrKill d e h r = omega arith
 
-pub start-ok : {U : Type 0} {r : Rules} (b : Book) (d : Day) (p : ℕ) (m : Ticket) (k : TimeInForce) → Good U r b d
-    → d .phase ≡ Open → firstNo (orderQuestions d p m k) ≡ 0
+pub start-ok : {U : Type 0} {r : Rules} (b : Book) (d : Day) (p : ℕ) (m : Ticket) (a : Access) (k : TimeInForce) → Good U r b d
+    → d .phase ≡ Open → firstNo (orderQuestions d p m a k) ≡ 0
     → Matching U k r (orderIn b (codesOf d p + 1) p m k) (admitted d (entryOf d p m)) (entryOf d p m)
 unfolding orderQuestions admitted blockFor beforeTrades
-start-ok b d p m k g phase e =
-    let qs = orderQuestions d p m k in
+start-ok b d p m a k g phase e =
+    let qs = orderQuestions d p m a k in
     let y = all-yes qs tt e in
     let o = entryOf d p m in
     let hp = ltb-true p (d .rules .participants) (yes 4 qs y) in
     let hs = ltb-true (m .security) (d .rules .securities) (yes 5 qs y) in
     let some = within-low 1 maxLots (m .lots) (yes 7 qs y) in
     record {
-      flight = flight-starts d p m k (g .standing) phase e;
+      flight = flight-starts d p m a k (g .standing) phase e;
       agree =
           block-agree (b .waiting ++ enters k (shown o)) b d o hp hs [] (g .standing .backed) (g .agree) (yes 14 qs y);
       waiting = rw (g .waiting, enters-waits k o some) (sym (shown-append (d .waiting) (waits k o)));
@@ -127,17 +128,17 @@ pub record EnteredOk (U : Type 0) (r : Rules) (b : Book) (d : Day) (p : ℕ) (m 
     pub count : length (f .trades) + (length (f .day .waiting) + min 1 (f .entry .lots)) ≤ length (d .waiting) + 1
     pub few : length (f .trades) ≤ length (d .waiting)
 
-pub enter-ok : {U : Type 0} {r : Rules} (b : Book) (d : Day) (p : ℕ) (m : Ticket) (k : TimeInForce) → Good U r b d
-    → d .phase ≡ Open → firstNo (orderQuestions d p m k) ≡ 0
+pub enter-ok : {U : Type 0} {r : Rules} (b : Book) (d : Day) (p : ℕ) (m : Ticket) (a : Access) (k : TimeInForce) → Good U r b d
+    → d .phase ≡ Open → firstNo (orderQuestions d p m a k) ≡ 0
     → EnteredOk U r b d p m k (fill (admitted d (entryOf d p m)) (entryOf d p m))
 unfolding admitted blockFor orderQuestions
-enter-ok {U} {r} b d p m k g phase e =
-    let qs = orderQuestions d p m k in
+enter-ok {U} {r} b d p m a k g phase e =
+    let qs = orderQuestions d p m a k in
     let hp = ltb-true p (d .rules .participants) (yes 4 qs (all-yes qs tt e)) in
     let o = entryOf d p m in
     let f = fill (admitted d o) o in
     let b1 = orderIn b (codesOf d p + 1) p m k in
-    let ok = fill-ok U k r (admitted d o) o b1 (start-ok b d p m k g phase e) in
+    let ok = fill-ok U k r (admitted d o) o b1 (start-ok b d p m a k g phase e) in
     record {
       good = finish (feedTrades r b1 (f .trades)) (f .day) (f .entry) k (ok .matching) (ok .ended);
       own = λ h. omega (arith, ok .own, ok .full h);

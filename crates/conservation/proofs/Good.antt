@@ -4,7 +4,8 @@ use mathlib.Core.List.{List}
 use Rattle.market.specs.declared.Order.{Order}
 use Rattle.market.specs.declared.Phase.the-variants.{Open}
 use Rattle.market.specs.declared.Rules.{Rules}
-use Rattle.market.specs.Day.{Asset, Day, columnsOf, positions, withWaiting}
+use Rattle.market.specs.declared.Asset.{Asset}
+use Rattle.market.specs.Day.{Day, columnsOf, positions, withWaiting}
 use Rattle.market.proofs.Matching.{Uncrossed}
 use Rattle.invariant.specs.Standing.{Standing}
 use Rattle.conservation.specs.Book.{Book, Waiting, balances, withOrders}

@@ -5,6 +5,7 @@ use mathlib.Core.Path.{_≡_, refl, ap, subst}
 use mathlib.Core.List.{List, [], _∷_, _++_, append-nil}
 use lib.ListN.{length, length-append}
 use borrow.Author.Tests.{leb-true}
+use Rattle.market.specs.declared.Access.the-variants.{Member}
 use Rattle.market.specs.declared.Ticket.{Ticket}
 use Rattle.market.specs.declared.Side.{Side}
 use Rattle.market.specs.declared.TimeInForce.the-variants.{FillOrKill}
@@ -15,13 +16,13 @@ use Rattle.market.specs.Codes.{codesOf, given}
 use Rattle.market.specs.Positions.{releaseFor}
 use Rattle.market.specs.TradeList.{Trade}
 use Rattle.market.specs.Calls.{entryOf}
-use Rattle.market.specs.Questions.{firstNo, orderQuestions}
+use Rattle.market.specs.Questions.{firstNo, memberQuestions, orderQuestions}
 use Rattle.market.specs.Matching.{Filled, fill, fitting}
 use Rattle.market.specs.Entry.{admitted, entered, finished}
 use Rattle.market.specs.Linked.{Group, memberBy, members, passed, stopped, withMember}
 use Rattle.market.proofs.Lists.{sum-append}
 use Rattle.market.proofs.Questions.{all-yes, yes}
-use Rattle.market.proofs.Phases.{whole-open}
+use Rattle.market.proofs.Phases.{member-open}
 use Rattle.market.proofs.Waiting.{Fresh}
 use Rattle.market.proofs.Codes.{numbered-fresh}
 use Rattle.conservation.specs.Book.{Book, beforeTrades, feedTrades, withOrders}
@@ -51,7 +52,7 @@ pub members-ok : {U : Type 0} {r : Rules} (ms : List Ticket) (at : ℕ) (d : Day
     → GroupOk U r b d p ms (members at d p ms)
 unfolding members entered feedTrades releaseFor orderQuestions beforeTrades
 members-ok [] at d p b g = (g, tt, λ x c h k. refl, omega arith)
-members-ok {U} {r} (m ∷ ms) at d p b g = go (firstNo (orderQuestions d p m FillOrKill)) refl
+members-ok {U} {r} (m ∷ ms) at d p b g = go (firstNo (memberQuestions d p m)) refl
     (λ d′ b′ g′. members-ok ms (suc at) d′ p b′ g′)
   where
     f : Filled
@@ -94,15 +95,15 @@ members-ok {U} {r} (m ∷ ms) at d p b g = go (firstNo (orderQuestions d p m Fil
       omega (arith, e .count, h .3, length-append s ts),
     )
 
-    go : (n : ℕ) → firstNo (orderQuestions d p m FillOrKill) ≡ n
+    go : (n : ℕ) → firstNo (memberQuestions d p m) ≡ n
         → ((d′ : Day) (b′ : Book) → Good U r b′ d′ → GroupOk U r b′ d′ p ms (members (suc at) d′ p ms))
         → GroupOk U r b d p (m ∷ ms) (memberBy n at (entered d (entryOf d p m) FillOrKill)
         (λ d′. members (suc at) d′ p ms))
     go (suc n) e again = tt
     go zero e again =
-        let qs = orderQuestions d p m FillOrKill in
+        let qs = memberQuestions d p m in
         let y = all-yes qs tt e in
-        let ok = enter-ok b d p m FillOrKill g (whole-open (d .phase) (yes 6 qs y)) e in
+        let ok = enter-ok b d p m Member FillOrKill g (member-open (d .phase) (yes 6 qs y)) e in
         let fits = leb-true (m .lots) (fitting (entryOf d p m) (d .waiting)) (yes 15 qs y) in
         let same : orderIn b (codesOf d p + 1) p m FillOrKill ≡ b = ap (withOrders b) (append-nil (b .waiting)) in
         let good : Good U r (feedTrades r b s) d1 =

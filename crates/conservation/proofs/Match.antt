@@ -13,7 +13,7 @@ use Rattle.market.specs.declared.TimeInForce.{TimeInForce}
 use Rattle.market.specs.declared.TimeInForce.the-variants.{FillOrKill, ImmediateOrCancel, Kept}
 use Rattle.market.specs.Limits.{maxWaiting}
 use Rattle.market.specs.declared.Rules.{Rules}
-use Rattle.market.specs.Day.{Day, orderAt, withLots}
+use Rattle.market.specs.Day.{Day, orderAt, row, withLots}
 use Rattle.market.specs.Codes.{codesOf, given}
 use Rattle.market.specs.Positions.{counted, settle}
 use Rattle.market.specs.Waiting.{takeOff}
@@ -21,6 +21,7 @@ use Rattle.market.specs.TradeList.{Trade, tradeOf}
 use Rattle.market.specs.Matching.{buyOf, found, ifBuy, lotsAt, opposite, reaches, sellOf, traded}
 use Rattle.market.specs.Entry.{remainder}
 use Rattle.market.proofs.Logic.{never}
+use Rattle.market.proofs.Needs.{value-added}
 use Rattle.market.proofs.Waiting.{Apart, Fresh, apart-drop, apart-last, fresh-takeOff, length-takeOff-le}
 use Rattle.market.proofs.Codes.{numbered-apart}
 use Rattle.market.proofs.Matching.{Chosen, Fit, Uncrossed, fit, uncrossed-takeOff}
@@ -130,7 +131,14 @@ module _ {U : Type 0} {r : Rules} (k : TimeInForce) (b : Book) (d : Day) (e : Or
   counts : tradeMoved r b (counted (d .rules) (d .turnover) ((buyOf e o) .security) p n) (trade (e .side))
       ≡ feedTrade r b (trade (e .side))
   unfolding feedTrade counted
-  counts = rw (m .agree .rules, m .agree .phase, m .agree .turnover, m .flight .phase)
+  counts =
+      rw (
+        m .agree .rules,
+        m .agree .phase,
+        m .agree .turnover,
+        m .flight .phase,
+        value-added (row (d .rules) ((buyOf e o) .security)) p n,
+      )
 
   pub next-trade : Matching U k r (feedTrade r b (trade (e .side))) (traded d (buyOf e o) (sellOf e o) i p n) rest
   unfolding traded settle counted

@@ -7,7 +7,9 @@ use mathlib.Core.Bool.{true}
 use borrow.Author.Tests.{leb-true}
 use Rattle.market.specs.Day.{Position}
 use Rattle.market.specs.declared.Rules.{Rules}
-use Rattle.market.specs.Day.{Asset, Day, Money, Pieces, columnsOf, cell, position, positions, totalLimit}
+use Rattle.market.specs.declared.Asset.{Asset}
+use Rattle.market.specs.declared.Asset.the-variants.{Money, Pieces}
+use Rattle.market.specs.Day.{Day, columnsOf, cell, position, positions, totalLimit}
 use Rattle.market.specs.Day.{withPositions}
 use Rattle.market.specs.Positions.{change, draw, receive, totalAt}
 use Rattle.market.specs.Questions.{isFree, totalFits}
@@ -30,7 +32,7 @@ module _ {U : Type 0} {r : Rules} (x : Asset) (b : Book) (d : Day) (p column a :
       let m : List ℕ = change (positions x d) at f in
       (f (position (positions x d) at)) .blocked ≡ (position (positions x d) at) .blocked
       → Balanced (d .rules) (columnsOf x (d .rules)) m l
-      → ((c : ℕ) → c < columnsOf x (d .rules) → totalAt (d .rules .participants) m c ≤ totalLimit x)
+      → ((c : ℕ) → c < columnsOf x (d .rules) → totalAt x (d .rules .participants) m c ≤ totalLimit x)
       → Good U r (withBalances x b l) (withPositions x d m)
   moved-good f l same balanced top = record {
     standing = standing-moved x d p column f (g .standing) hp hc same top;
@@ -59,11 +61,11 @@ module _ {U : Type 0} {r : Rules} (x : Asset) (b : Book) (d : Day) (p column a :
   increase-good e =
       let h = g .standing .backed .held x in
       let m = positions x d in
-      let top = leb-true (totalAt (d .rules .participants) m column + a) (totalLimit x) e in
+      let top = leb-true (totalAt x (d .rules .participants) m column + a) (totalLimit x) e in
       moved-good (receive a) _ refl
       (balanced-add h (g .agree .balanced x) p column a (receive a) hp hc (omega arith))
       (λ k hk.
-      raised (d .rules .participants) p column a (totalLimit x) m (h .rows) hp (omega (arith, h .wide))
+      raised x (d .rules .participants) p column a (totalLimit x) m (h .rows) hp (omega (arith, h .wide))
       (held-inside h p column hp hc) top k (omega (arith, h .wide)) (h .topped k hk))
 
   pub decrease-good : isFree x d p column a ≡ true
@@ -76,6 +78,6 @@ module _ {U : Type 0} {r : Rules} (x : Asset) (b : Book) (d : Day) (p column a :
       moved-good (draw a) _ refl
       (balanced-sub h (g .agree .balanced x) p column a (draw a) hp hc (omega (arith, has)))
       (λ k hk.
-      let t = total-falls (d .rules .participants) k m at (draw a) a (held-member h p column hp hc)
+      let t = total-falls x (d .rules .participants) k m at (draw a) a (held-member h p column hp hc)
       (held-inside h p column hp hc) (omega arith) in
       omega (arith, t, h .topped k hk))

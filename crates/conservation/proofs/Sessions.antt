@@ -14,6 +14,7 @@ use Rattle.market.specs.Day.{Day}
 use Rattle.market.specs.Positions.{blockFor}
 use Rattle.market.specs.Sound.{isClosing, isCollecting}
 use Rattle.market.specs.Calls.{closingOf, entryOf}
+use Rattle.market.specs.Phases.{orderAccess}
 use Rattle.market.specs.Questions.{closingQuestions, firstNo, orderQuestions}
 use Rattle.market.specs.Entry.{admitted, placed}
 use Rattle.market.specs.Pairing.{pairsFrom}
@@ -64,7 +65,7 @@ closingOrder-good b d p x s n g e =
 
 -- a kept order while collecting
 pub collected-good : {U : Type 0} {r : Rules} (b : Book) (d : Day) (p : ℕ) (m : Ticket) → Good U r b d
-    → d .phase ≡ Collecting → firstNo (orderQuestions d p m Kept) ≡ 0
+    → d .phase ≡ Collecting → firstNo (orderQuestions d p m (orderAccess Kept) Kept) ≡ 0
     → Good U r (withOrders b (b .waiting ++ (shown (entryOf d p m) ∷ []))) ((placed d (entryOf d p m)) .day)
 collected-good b d p m g phase e =
     placed-good b d (entryOf d p m) g (not-open isCollecting (d .phase) refl (ap isCollecting phase)) (kept-placeable d p m e)

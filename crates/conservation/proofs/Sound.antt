@@ -9,7 +9,9 @@ use borrow.Author.Tests.{le-ltb, lt-ltb}
 use Rattle.market.specs.Limits.{cells, columns, market}
 use Rattle.market.specs.Tests.{_<?_}
 use Rattle.market.specs.declared.Rules.{Rules}
-use Rattle.market.specs.Day.{Asset, Day, Money, Pieces, columnsOf, cell, position, positions}
+use Rattle.market.specs.declared.Asset.{Asset}
+use Rattle.market.specs.declared.Asset.the-variants.{Money, Pieces}
+use Rattle.market.specs.Day.{Day, columnsOf, cell, position, positions}
 use Rattle.market.specs.View.{Sized}
 use Rattle.market.specs.Positions.{total}
 use Rattle.market.specs.Sound.{sound}

@@ -7,7 +7,9 @@ use Rattle.market.specs.declared.Order.{Order}
 use Rattle.market.specs.declared.Side.the-variants.{Buy, Sell}
 use Rattle.market.specs.declared.Turnover.{Turnover}
 use Rattle.market.specs.declared.Rules.{Rules}
-use Rattle.market.specs.Day.{Asset, Day, Money, Pieces, Position, columnsOf, currencyOf, row, cell, position, positions}
+use Rattle.market.specs.declared.Asset.{Asset}
+use Rattle.market.specs.declared.Asset.the-variants.{Money, Pieces}
+use Rattle.market.specs.Day.{Day, Position, columnsOf, currencyOf, row, cell, position, positions}
 use Rattle.market.specs.Day.{withTurnover, withWaiting}
 use Rattle.market.specs.Needs.{bothFees, fee, limitOf, only, piecesOf, cellFor, proceeds, sumFor, withFee}
 use Rattle.market.specs.Positions.{fall, pay, settle, total}

@@ -133,6 +133,10 @@ module _ {text before after m k : List ℕ} {x : Rules} {b : OrderBook} {last : 
                 less-ahead before after _ _ (from .filled) (last .filled) (omega (arith, lent)) filled
                     (omega (arith, lent, full, size)) whole,
               ));
+          count = o .count;
+          day = e ∙ o .day;
+          rest = o .rest;
+          all = λ over. never over;
         };
         full = λ _. full;
       }
@@ -150,12 +154,13 @@ module _ {text before after m k : List ℕ} {x : Rules} {b : OrderBook} {last : 
           ∙ h .onward .fits
 
   -- it has room, so that no command is left: the positions, and the run is over
-  pub fills-over : {out : List ℕ} {end : ℕ} → last .filled + room ≤ length after
+  pub fills-over : {out : List ℕ} {end : ℕ} → view z ≡ dayOf (rulesOf (from .state)) (last .phase) m k (last .book)
+      → last .filled + room ≤ length after
       → Puts after (last .filled) (positionLines (dayOf (rulesOf (from .state)) (last .phase) m k (last .book))) out end
       → Fills text from before
       (record { state = z; at = last .at; line = last .line; filled = end; over = true }) out
   unfolding left toGo
-  fills-over {out} {end} enough p = record {
+  fills-over {out} {end} e enough p = record {
     continues = record {
       going = λ over. never (sym over);
       size = p .size ∙ h .onward .size;
@@ -170,17 +175,23 @@ module _ {text before after m k : List ℕ} {x : Rules} {b : OrderBook} {last : 
           ∙ h .onward .fits);
       past = p .past ∙ drop-further after before (last .filled) end (omega (arith, p .end)) (h .onward .past);
       less = rw still (omega arith);
+      count = h .onward .count;
+      day = e ∙ h .onward .day;
+      rest = h .onward .rest;
+      all = λ _. ended;
     };
     full = λ over. never (sym over);
   }
     where
+      ended : drop (last .at) text ≡ []
+      ended =
+          drop-of-length-le text {i = last .at}
+          (at-end (length text) (last .at) (length after) (last .filled) (h .stops) enough)
+
       positions : toPrint text (rulesOf (from .state)) m k last
           ≡ positionLines (dayOf (rulesOf (from .state)) (last .phase) m k (last .book)) ∷ []
       positions =
-          ap (outputsFrom _ (last .line))
-          (drop-of-length-le text {i = last .at}
-          (at-end (length text) (last .at) (length after) (last .filled) (h .stops) enough))
-          ∙ outputs-end _ (last .line)
+          ap (outputsFrom _ (last .line)) ended ∙ outputs-end _ (last .line)
 
       lines : List ℕ
       lines = positionLines (dayOf (rulesOf (from .state)) (last .phase) m k (last .book))

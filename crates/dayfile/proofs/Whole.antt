@@ -6,15 +6,19 @@ use mathlib.Core.List.{List, [], _++_, append-nil}
 use mathlib.Core.Bool.{Bool, true, false, cond}
 use lib.ListN.{drop, length, take, length-append, take-append-drop}
 use lib.Seq.{length-take-le}
-use borrow.Author.Tests.{eq-eqb, leb-false, leb-true, ne-eqb}
-use Rattle.market.specs.Tests.{_=?_, _≤?_}
-use Rattle.market.proofs.Logic.{never}
+use borrow.Author.Tests.{eq-eqb, le-leb, leb-false, leb-true, ne-eqb}
+use Rattle.market.specs.Tests.{_=?_, _and_, _≤?_}
+use Rattle.market.specs.Day.{Day}
+use Rattle.market.specs.View.{view}
+use Rattle.market.proofs.Logic.{both, never}
 use Rattle.printing.proofs.Buffer.{drop-further}
-use Rattle.commands.specs.Output.{withRoom, joined}
+use Rattle.commands.specs.Output.{carriedOut, withRoom, joined, textAfter}
+use Rattle.commands.proofs.Rounds.{carried-then, text-then}
+use Rattle.heading.specs.Heading.{heading, maxText}
 use Rattle.commands.proofs.WithRoom.{with-room-end, with-room-none}
 use Rattle.dayfile.specs.declared.Run.{Run}
 use Rattle.dayfile.specs.Output.{outputs, printed}
-use Rattle.dayfile.specs.Run.{Begins, Continues, Prints, left, room, taken}
+use Rattle.dayfile.specs.Run.{Begins, Continues, Prints, dayReached, left, room, taken}
 use Rattle.dayfile.proofs.Resuming.{none-left}
 use Rattle.dayfile.proofs.Some.{left-some, printed-some}
 
@@ -43,6 +47,24 @@ module _ {text before after : List ℕ} {r : Run} (b : Begins text before r afte
       go : (k : Bool) → (room ≤? length before) ≡ k → room ≤ length before
       go true q = leb-true room (length before) q
       go false q = never (sym e ∙ b .small (leb-false room (length before) q))
+
+  -- commands carried out after those of the beginning
+  module _ (e : r .over ≡ false) (count : ℕ) {d : Day} {t : List ℕ}
+      (day : d ≡ carriedOut count (view (r .state)) (drop (r .at) text)) (rest : t ≡ textAfter count (drop (r .at) text)) where
+    pub rest-then : t ≡ textAfter (b .count + count) ((heading text) .rest)
+    rest-then = rest ∙ ap (textAfter count) (b .rest e) ∙ sym (text-then (b .count) count ((heading text) .rest))
+
+    pub day-then : d ≡ dayReached (length before) text (b .count + count)
+    unfolding dayReached
+    day-then =
+        let read = both (le-leb room (length before) (begins-room e)) (le-leb (length text) maxText ((b .going e) .short)) in
+        let first : view (r .state) ≡ carriedOut (b .count) ((heading text) .day) ((heading text) .rest) =
+        rw read at (b .day) in
+        rw read
+        (day
+        ∙ ap (λ (x : Day). carriedOut count x (drop (r .at) text)) first
+        ∙ ap (carriedOut count (carriedOut (b .count) ((heading text) .day) ((heading text) .rest))) (b .rest e)
+        ∙ sym (carried-then (b .count) count ((heading text) .day) ((heading text) .rest)))
 
   -- nothing that is left has room
   module _ (full : withRoom (length after - r .filled) (left text r) ≡ []) where
@@ -105,4 +127,8 @@ module _ {text before after : List ℕ} {r : Run} (b : Begins text before r afte
     whole = λ enough. c .whole ∙ b .whole enough;
     fits = c .fits ∙ b .fits;
     past = c .past ∙ drop-further after before (r .filled) (q .filled) (c .forward) (b .past);
+    count = b .count + c .count;
+    day = day-then e (c .count) (c .day) (c .rest);
+    rest = λ _. rest-then e (c .count) (c .day) (c .rest);
+    all = λ over _ _. sym (rest-then e (c .count) (c .day) (c .rest)) ∙ c .all over;
   }

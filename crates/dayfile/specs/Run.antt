@@ -5,13 +5,16 @@ use mathlib.Core.List.{List, [], _++_}
 use mathlib.Core.Bool.{Bool, true, false, cond}
 use lib.ListN.{drop, length, take}
 use Rattle.market.specs.declared.Answer.the-variants.{Refused}
-use Rattle.market.specs.Tests.{_=?_}
+use Rattle.market.specs.Tests.{_=?_, _and_, _≤?_}
 use Rattle.market.specs.View.{view}
+use Rattle.market.specs.Day.{Day}
 use Rattle.market.specs.Sound.{sound}
+use Rattle.market.specs.Answers.{isDone}
+use Rattle.market.specs.Opening.{noRules, opened}
 use Rattle.printing.specs.Buffer.{Puts}
 use Rattle.printing.specs.Lines.{answerLine}
-use Rattle.heading.specs.Heading.{maxText}
-use Rattle.commands.specs.Output.{withRoom, joined, outputsFrom}
+use Rattle.heading.specs.Heading.{heading, maxText}
+use Rattle.commands.specs.Output.{carriedOut, withRoom, joined, outputsFrom, textAfter}
 pub use Rattle.commands.specs.Stand.{room}
 use Rattle.dayfile.specs.declared.Run.{Run}
 use Rattle.dayfile.specs.Output.{outputs, printed, tooLong}
@@ -44,10 +47,20 @@ pub record Going (text : List ℕ) (r : Run) : Type 0 where
   pub short : length text ≤ maxText
   pub line : r .line ≤ 18 + 9 * r .at
 
--- a text over 65,536 bytes: its answer stands in the buffer, and the run is over
+-- is a heading read? The buffer has room for its answer, and the text is not too long
+abbrev pub isRead : ℕ → List ℕ → Bool
+isRead size text = room ≤? size and length text ≤? maxText
+
+-- the day after the heading and n commands; zeros where no heading is read
+unfoldable pub dayReached : ℕ → List ℕ → ℕ → Day
+dayReached size text n =
+    cond (isRead size text) (carriedOut n ((heading text) .day) ((heading text) .rest)) (opened noRules)
+
+-- a text over 65,536 bytes: its answer stands in the buffer, and the run is over, with zeros
 pub record TooLong (before : List ℕ) (r : Run) (after : List ℕ) : Type 0 where
   pub over : r .over ≡ true
   pub puts : Puts before 0 (answerLine 0 (Refused tooLong 0)) after (r .filled)
+  pub state : view (r .state) ≡ opened noRules
 
 -- the beginning: what stands in the buffer makes up what is to be printed with what is left, and what has room with what
 -- of that has room; what stands behind it stays. In a buffer without room for an output nothing begins
@@ -60,6 +73,13 @@ pub record Begins (text before : List ℕ) (r : Run) (after : List ℕ) : Type 0
   pub fits : take (r .filled) after ++ withRoom (length after - r .filled) (left text r)
       ≡ withRoom (length before) (outputs text)
   pub past : drop (r .filled) after ≡ drop (r .filled) before
+  -- so many commands were carried out after the heading: the state is the definition's day after them, and where the run is
+  -- over there are no more
+  pub count : ℕ
+  pub day : view (r .state) ≡ dayReached (length before) text count
+  pub rest : r .over ≡ false → drop (r .at) text ≡ textAfter count ((heading text) .rest)
+  pub all : r .over ≡ true → isRead (length before) text ≡ true → isDone ((heading text) .answer) ≡ true
+      → textAfter count ((heading text) .rest) ≡ []
 
 -- r′ goes on from r: what stands in the buffer makes up the same as before with what is left, and with what of that has
 -- room; what stands behind it stays, and less is to do
@@ -73,6 +93,12 @@ pub record Continues (text : List ℕ) (r : Run) (before : List ℕ) (r′ : Run
       ≡ take (r .filled) before ++ withRoom (length before - r .filled) (left text r)
   pub past : drop (r′ .filled) after ≡ drop (r′ .filled) before
   pub less : toGo text r′ < toGo text r
+  -- so many commands were carried out: the state is the definition's day after them, and where the run is over there are
+  -- no more
+  pub count : ℕ
+  pub day : view (r′ .state) ≡ carriedOut count (view (r .state)) (drop (r .at) text)
+  pub rest : drop (r′ .at) text ≡ textAfter count (drop (r .at) text)
+  pub all : r′ .over ≡ true → drop (r′ .at) text ≡ []
 
 -- r′ goes on from r as far as the buffer has room
 pub record Fills (text : List ℕ) (r : Run) (before : List ℕ) (r′ : Run) (after : List ℕ) : Type 0 where

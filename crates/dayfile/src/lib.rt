@@ -15,7 +15,9 @@ ghost use mathlib.Core.Path.{_≡_};
 ghost use mathlib.Core.Bool.{true, false};
 ghost use Prim.Native.Nat.{_+_, _≤_};
 ghost use lib.ListN.{length};
+ghost use Rattle.market.specs.View.{view};
 ghost use Rattle.market.specs.Answers.{isDone};
+ghost use Rattle.market.specs.Opening.{noRules, opened};
 ghost use Rattle.dayfile.specs.Run.{Begins, Fills, Going, Prints, TooLong, room};
 
 const TOO_LONG: u64 = 20;
@@ -93,9 +95,9 @@ pub fn is_done(answer: Answer) -> bool
     }
 }
 
-// A run that is over; nobody goes on from its state.
+// A run that is over, with a state of zeros.
 fn ended(filled: usize) -> Run
-    ensures { λ r. ⌜ (r .over ≡ true) × (r .filled ≡ filled) ⌝ }
+    ensures { λ r. ⌜ (r .over ≡ true) × (r .filled ≡ filled) × (view (r .state) ≡ opened noRules) ⌝ }
 {
     let outcome = refused_opening(TOO_LONG, 0);
     let state = outcome.state;

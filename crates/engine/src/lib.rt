@@ -19,7 +19,7 @@ use market::state_of;
 use soundness::lent_sound;
 ghost use mathlib.Core.Path.{_≡_};
 ghost use mathlib.Core.List.{[]};
-ghost use Rattle.market.specs.Day.{Money, Pieces};
+ghost use Rattle.market.specs.declared.Asset.the-variants.{Money, Pieces};
 ghost use Rattle.market.specs.Calls.{cancel as cancelCall, closingOrder, decrease, endCollecting, endSession};
 ghost use Rattle.market.specs.Calls.{increase, linked as linkedCall, noTickets, order, startClosing, startCollecting};
 ghost use Rattle.market.specs.Parts.{callOf};

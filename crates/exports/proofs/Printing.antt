@@ -4,25 +4,27 @@ use native.Mathlib.Omega.{arith}
 use mathlib.Core.Path.{_≡_, refl, _∙_}
 use mathlib.Core.List.{List, _++_}
 use mathlib.Core.Bool.{false}
-use lib.ListN.{length}
+use lib.ListN.{drop, length}
 use Rattle.market.specs.declared.Answer.{Answer}
 use Rattle.market.specs.declared.State.{State}
 use Rattle.market.specs.Answers.{numbersOf}
 use Rattle.market.specs.View.{Sized, view}
 use Rattle.market.specs.Parts.{bookOf, rulesOf}
+use Rattle.market.proofs.Logic.{never}
 use Rattle.reading.specs.declared.Reading.{Reading}
 use Rattle.reading.specs.Commands.{Reads}
 use Rattle.printing.specs.Buffer.{Puts}
 use Rattle.printing.specs.Lines.{answerLine, flatLines, positionLines}
 use Rattle.printing.proofs.Buffer.{drop-further}
 use Rattle.commands.specs.declared.Stand.{Stand}
+use Rattle.commands.specs.Output.{carriedOut}
 use Rattle.commands.specs.Stand as stand
 use Rattle.commands.specs.Stand.{Onward, goesOn, room}
 use Rattle.commands.proofs.Placing.{command-next, onward-none, onward-then}
 use Rattle.dayfile.specs.declared.Run.{Run}
 use Rattle.dayfile.specs.Run.{Begins, Prints, left}
 use Rattle.dayfile.proofs.Resuming.{fills-over, starts}
-use Rattle.dayfile.proofs.Whole.{begins-room, begins-then, prints-over}
+use Rattle.dayfile.proofs.Whole.{begins-room, begins-then, day-then, prints-over, rest-then}
 use Rattle.exports.proofs.PublicCalls.{Follows}
 
 -- a run that is not over, and where its commands stand
@@ -89,7 +91,14 @@ module _ {text before middle after : List ℕ} {r : Run} {s : State} {at line fi
         past =
             f .onward .past
             ∙ drop-further middle before (r .filled) filled (f .onward .forward) (begins .past);
+        count = begins .count + f .onward .count;
+        day = day-then begins still (f .onward .count) day (f .onward .rest);
+        rest = λ _. rest-then begins still (f .onward .count) day (f .onward .rest);
+        all = λ over. never over;
       }
+    where
+      day : view s ≡ carriedOut (f .onward .count) (view (r .state)) (drop (r .at) text)
+      day = rw (← f .rules) (f .onward .day)
 
   -- the commands stopped with room left: the positions, and all is printed
   pub prints-all : {out : List ℕ} {end : ℕ} → goesOn (length text) at (length after) filled ≡ false
@@ -97,5 +106,5 @@ module _ {text before middle after : List ℕ} {r : Run} {s : State} {at line fi
   prints-all stops fits puts =
       let none = onward-none _ _ _ _ _ _ (going f) (f .onward .filled) in
       let last =
-      fills-over (runOf s at line filled) refl refl (record { onward = none; stops = stops }) refl fits s fits puts in
+      fills-over (runOf s at line filled) refl refl (record { onward = none; stops = stops }) refl fits s refl fits puts in
       prints-over (begins-then begins-on refl (last .continues)) refl

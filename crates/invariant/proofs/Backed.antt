@@ -9,7 +9,9 @@ use Rattle.market.specs.declared.Order.{Order}
 use Rattle.market.specs.declared.Side.{Side}
 use Rattle.market.specs.declared.Side.the-variants.{Buy, Sell}
 use Rattle.market.specs.declared.Rules.{Rules}
-use Rattle.market.specs.Day.{Asset, Day, Money, Pieces, Position, columnsOf, cell, position, positions}
+use Rattle.market.specs.declared.Asset.{Asset}
+use Rattle.market.specs.declared.Asset.the-variants.{Money, Pieces}
+use Rattle.market.specs.Day.{Day, Position, columnsOf, cell, position, positions}
 use Rattle.market.specs.Day.{totalLimit, withPositions, withWaiting}
 use Rattle.market.specs.Codes.{giveCode}
 use Rattle.market.specs.Needs.{assetOf, columnOf, need, needAt, ofAsset, only, cellFor}
@@ -62,7 +64,7 @@ module _ (x x′ : List Order) (d : Day) (backed : Backed x d) (w′ : List Orde
           → needsOf y d (x′ ++ w′) j + ofAsset y z (only i j less)
           ≡ needsOf y d (x ++ d .waiting) j + ofAsset y z (only i j more))
           → (y : Asset)
-          → Held (d .rules) (columnsOf y (d .rules)) (totalLimit y)
+          → Held y (d .rules)
           (positions y (withWaiting (withPositions (assetOf z) d (change (positions (assetOf z) d) i f)) w′))
           (needsOf y d (x′ ++ w′))
       held Buy h a m n Money = held-block (backed .held Money) p _ f less more _ hp h a m (n Money)
@@ -121,7 +123,7 @@ pub standing-moved : (x : Asset) (d : Day) (p c : ℕ) (f : Position → Positio
     → c < columnsOf x (d .rules) →
     let m : List ℕ = change (positions x d) (cell p c) f in
     (f (position (positions x d) (cell p c))) .blocked ≡ (position (positions x d) (cell p c)) .blocked
-    → ((k : ℕ) → k < columnsOf x (d .rules) → totalAt (d .rules .participants) m k ≤ totalLimit x)
+    → ((k : ℕ) → k < columnsOf x (d .rules) → totalAt x (d .rules .participants) m k ≤ totalLimit x)
     → Standing (withPositions x d m)
 standing-moved x d p c f g hp hc same top = record {
   backed = record { rulesOk = g .backed .rulesOk; held = each x hc same top };
@@ -137,8 +139,8 @@ standing-moved x d p c f g hp hc same top = record {
     each : (x : Asset) → c < columnsOf x (d .rules) →
         let m : List ℕ = change (positions x d) (cell p c) f in
         (f (position (positions x d) (cell p c))) .blocked ≡ (position (positions x d) (cell p c)) .blocked
-        → ((k : ℕ) → k < columnsOf x (d .rules) → totalAt (d .rules .participants) m k ≤ totalLimit x) → (y : Asset)
-        → Held (d .rules) (columnsOf y (d .rules)) (totalLimit y) (positions y (withPositions x d m))
+        → ((k : ℕ) → k < columnsOf x (d .rules) → totalAt x (d .rules .participants) m k ≤ totalLimit x) → (y : Asset)
+        → Held y (d .rules) (positions y (withPositions x d m))
         (needsOf y d (d .waiting))
     each Money hc same top Money = held-move (g .backed .held Money) p c f hp hc same top
     each Money hc same top Pieces = g .backed .held Pieces

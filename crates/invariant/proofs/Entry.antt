@@ -9,6 +9,7 @@ use borrow.Author.Tests.{eqb-true, eqb-false, ltb-true}
 use Rattle.market.specs.declared.Kind.{Kind}
 use Rattle.market.specs.declared.Kind.the-variants as kind
 use Rattle.market.specs.declared.Ticket.{Ticket}
+use Rattle.market.specs.declared.Access.{Access}
 use Rattle.market.specs.declared.Order.{Order}
 use Rattle.market.specs.declared.Phase.{Phase}
 use Rattle.market.specs.declared.Phase.the-variants.{Open}
@@ -18,7 +19,8 @@ use Rattle.market.specs.declared.Turnover.{Turnover}
 use Rattle.market.specs.Limits.{maxLots, maxWaiting}
 use Rattle.market.specs.Tests.{_=?_}
 use Rattle.market.specs.declared.Rules.{Rules}
-use Rattle.market.specs.Day.{Asset, Day, row, turnoverAt, withLots, withMoney, withPieces, withWaiting}
+use Rattle.market.specs.declared.Asset.{Asset}
+use Rattle.market.specs.Day.{Day, row, turnoverAt, withLots, withMoney, withPieces, withWaiting}
 use Rattle.market.specs.Codes.{codesOf, given}
 use Rattle.market.specs.Needs.{needAt, only, piecesOf}
 use Rattle.market.specs.Positions.{blockFor, releaseFor}
@@ -56,11 +58,11 @@ priced-kinds d e o h = go (o .kind) h
     go kind.Closing h = absurd h
 
 -- where an order's questions are all answered "yes" while open, it is in flight once it is admitted
-pub flight-starts : (d : Day) (p : ℕ) (m : Ticket) (k : TimeInForce) → Standing d → d .phase ≡ Open
-    → firstNo (orderQuestions d p m k) ≡ 0 → InFlight (admitted d (entryOf d p m)) (entryOf d p m)
+pub flight-starts : (d : Day) (p : ℕ) (m : Ticket) (a : Access) (k : TimeInForce) → Standing d → d .phase ≡ Open
+    → firstNo (orderQuestions d p m a k) ≡ 0 → InFlight (admitted d (entryOf d p m)) (entryOf d p m)
 unfolding orderQuestions admitted blockFor
-flight-starts d p m k g phase e =
-    let qs = orderQuestions d p m k in
+flight-starts d p m a k g phase e =
+    let qs = orderQuestions d p m a k in
     let y = all-yes qs tt e in
     let o = entryOf d p m in
     let ok = g .backed .rulesOk in

@@ -12,7 +12,8 @@ use Rattle.market.specs.declared.Turnover.{Turnover}
 use Rattle.market.specs.Limits.{maxPrice}
 use Rattle.market.specs.Tests.{sumOf}
 use Rattle.market.specs.declared.Rules.{Rules}
-use Rattle.market.specs.Day.{Asset, Day, row, noOrder, orderAt, turnoverAt, withLots}
+use Rattle.market.specs.declared.Asset.{Asset}
+use Rattle.market.specs.Day.{Day, row, noOrder, orderAt, turnoverAt, withLots}
 use Rattle.market.specs.Codes.{codesOf, given}
 use Rattle.market.specs.Needs.{limitOf, needAt, only, piecesOf}
 use Rattle.market.specs.Positions.{counted, settle}

@@ -13,7 +13,8 @@ use Rattle.market.specs.declared.Phase.{Phase}
 use Rattle.market.specs.declared.Phase.the-variants.{Closing}
 use Rattle.market.specs.declared.Side.the-variants.{Buy, Sell}
 use Rattle.market.specs.declared.Turnover.{Turnover}
-use Rattle.market.specs.Day.{Asset, Day, row, noOrder, orderAt, turnoverAt}
+use Rattle.market.specs.declared.Asset.{Asset}
+use Rattle.market.specs.Day.{Day, row, noOrder, orderAt, turnoverAt}
 use Rattle.market.specs.Codes.{codesOf, given}
 use Rattle.market.specs.Needs.{limitOf, needAt, priceOr}
 use Rattle.market.specs.Positions.{settle}

@@ -15,6 +15,7 @@ use Rattle.market.specs.Needs.{needAt}
 use Rattle.market.specs.Positions.{blockFor}
 use Rattle.market.specs.Sound.{isClosing}
 use Rattle.market.specs.Calls.{closingOf, entryOf}
+use Rattle.market.specs.Phases.{orderAccess}
 use Rattle.market.specs.Questions.{closingQuestions, firstNo, orderQuestions}
 use Rattle.market.specs.Entry.{admitted, placed}
 use Rattle.market.proofs.Logic.{both, within-high, within-low}
@@ -49,11 +50,11 @@ closing-placeable d p x s n e =
     }
 
 -- a kept order whose questions are all answered "yes"
-pub kept-placeable : (d : Day) (p : ℕ) (m : Ticket) → firstNo (orderQuestions d p m Kept) ≡ 0
+pub kept-placeable : (d : Day) (p : ℕ) (m : Ticket) → firstNo (orderQuestions d p m (orderAccess Kept) Kept) ≡ 0
     → Placeable d (entryOf d p m)
 unfolding orderQuestions
 kept-placeable d p m e =
-    let qs = orderQuestions d p m Kept in
+    let qs = orderQuestions d p m (orderAccess Kept) Kept in
     let y = all-yes qs tt e in
     record {
       order = record {

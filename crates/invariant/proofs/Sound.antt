@@ -12,7 +12,9 @@ use Rattle.market.specs.declared.Phase.{Phase}
 use Rattle.market.specs.Limits.{columns, maxLots, maxWaiting, positionNumbers}
 use Rattle.market.specs.Tests.{_=?_, _≤?_, allBelow}
 use Rattle.market.specs.declared.Rules.{Rules}
-use Rattle.market.specs.Day.{Asset, Day, Money, Pieces, columnsOf, cell, position, positions}
+use Rattle.market.specs.declared.Asset.{Asset}
+use Rattle.market.specs.declared.Asset.the-variants.{Money, Pieces}
+use Rattle.market.specs.Day.{Day, columnsOf, cell, position, positions}
 use Rattle.market.specs.View.{Sized, dayOf}
 use Rattle.market.specs.Day.{totalLimit, turnoverAt}
 use Rattle.market.specs.Codes.{given}
@@ -45,7 +47,7 @@ module _ (d : Day) (g : Standing d) where
   unfolding totalsSound
   totals-sound x =
       below-intro (columnsOf x (d .rules)) _
-      (λ c hc. le-leb (totalAt (d .rules .participants) (positions x d) c) (totalLimit x) ((g .backed .held x) .topped c hc))
+      (λ c hc. le-leb (totalAt x (d .rules .participants) (positions x d) c) (totalLimit x) ((g .backed .held x) .topped c hc))
 
   pub standing-sound : sound d ≡ true
   unfolding sound
@@ -63,21 +65,24 @@ module _ (d : Day) (g : Standing d) where
       (below-intro (d .rules .securities) _
       (λ s h. turnover-sound (given d) (turnoverAt (d .turnover) s) (g .turnovers s h))))))))))
 
-held-own : (r : Rules) (n limit : ℕ) (m : List ℕ) (needs : ℕ → ℕ) → RulesOk r → n ≤ columns
+held-own : (x : Asset) (r : Rules) (m : List ℕ) (needs : ℕ → ℕ) → RulesOk r → columnsOf x r ≤ columns
     → length m ≡ positionNumbers
-    → allBelow (r .participants) (λ p. allBelow n (λ c. (position m (cell p c)) .blocked =? needs (cell p c))) ≡ true
-    → allBelow n (λ c. totalAt (r .participants) m c ≤? limit) ≡ true
-    → Held r n limit m needs
-held-own r n limit m needs ok wide size blocked top = record {
+    → allBelow (r .participants) (λ p. allBelow (columnsOf x r)
+    (λ c. (position m (cell p c)) .blocked =? needs (cell p c))) ≡ true
+    → allBelow (columnsOf x r) (λ c. totalAt x (r .participants) m c ≤? totalLimit x) ≡ true
+    → Held x r m needs
+held-own x r m needs ok wide size blocked top = record {
   wide = wide;
   rows = ok .participants;
   positions = size;
   blocked = λ p c hp hc.
       eqb-true ((position m (cell p c)) .blocked) (needs (cell p c))
-      (below-all n (λ c. (position m (cell p c)) .blocked =? needs (cell p c))
+      (below-all (columnsOf x r) (λ c. (position m (cell p c)) .blocked =? needs (cell p c))
       (below-all (r .participants)
-      (λ p. allBelow n (λ c. (position m (cell p c)) .blocked =? needs (cell p c))) blocked p hp) c hc);
-  topped = λ c hc. leb-true (totalAt (r .participants) m c) limit (below-all n (λ c. totalAt (r .participants) m c ≤? limit) top c hc);
+      (λ p. allBelow (columnsOf x r) (λ c. (position m (cell p c)) .blocked =? needs (cell p c))) blocked p hp) c hc);
+  topped = λ c hc.
+      leb-true (totalAt x (r .participants) m c) (totalLimit x)
+      (below-all (columnsOf x r) (λ c. totalAt x (r .participants) m c ≤? totalLimit x) top c hc);
 }
 
 order-facts : (d : Day) (o : Order) → orderSound d o ≡ true → OrderOk (d .rules) o × KindOk d o
@@ -124,11 +129,11 @@ sound-standing d size e =
   where
     held-each : RulesOk (d .rules) → blockedSound Money d ≡ true → blockedSound Pieces d ≡ true
         → totalsSound Money d ≡ true → totalsSound Pieces d ≡ true → (x : Asset)
-        → Held (d .rules) (columnsOf x (d .rules)) (totalLimit x) (positions x d) (needsAt x d)
+        → Held x (d .rules) (positions x d) (needsAt x d)
     held-each ok bm bp tm tp Money =
-        held-own (d .rules) _ _ (d .money) _ ok (omega (arith, ok .currencies)) (size .money) bm tm
+        held-own Money (d .rules) (d .money) _ ok (omega (arith, ok .currencies)) (size .money) bm tm
     held-each ok bm bp tm tp Pieces =
-        held-own (d .rules) _ _ (d .pieces) _ ok (ok .securities) (size .pieces) bp tp
+        held-own Pieces (d .rules) (d .pieces) _ ok (ok .securities) (size .pieces) bp tp
 
 pub ready-standing : {r : Rules} {x : Phase} {m k : List ℕ} {b : OrderBook} → Ready r x m k b → Standing (dayOf r x m k b)
 ready-standing {r} {x} {m} {k} {b} g = sound-standing (dayOf r x m k b) (g .sized) (g .sound)

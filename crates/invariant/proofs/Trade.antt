@@ -9,7 +9,9 @@ use Rattle.market.specs.declared.Order.{Order}
 use Rattle.market.specs.declared.Side.the-variants.{Buy, Sell}
 use Rattle.market.specs.declared.Turnover.{Turnover}
 use Rattle.market.specs.Tests.{sumOf}
-use Rattle.market.specs.Day.{Asset, Day, Money, Pieces, columnsOf, currencyOf, row, cell, position, positions}
+use Rattle.market.specs.declared.Asset.{Asset}
+use Rattle.market.specs.declared.Asset.the-variants.{Money, Pieces}
+use Rattle.market.specs.Day.{Day, columnsOf, currencyOf, row, cell, position, positions}
 use Rattle.market.specs.Day.{totalLimit, withTurnover, withWaiting}
 use Rattle.market.specs.Needs.{bothFees, limitOf, needAt, ofAsset, only, piecesOf, cellFor, proceeds, sumFor, withFee}
 use Rattle.market.specs.Positions.{change, fall, pay, receive, settle, totalAt}
@@ -49,7 +51,7 @@ module _ (x x′ w′ : List Order) (d : Day) (buy sell : Order) (p n : ℕ) (t�
       → other < d .rules .participants → column < columnsOf y (d .rules) → cost ≤ falls → gain ≤ cost
       → ((j : ℕ)
       → needsOf y d (x′ ++ w′) j + only (cell payer column) j falls ≡ needsOf y d (x ++ d .waiting) j)
-      → Held (d .rules) (columnsOf y (d .rules)) (totalLimit y)
+      → Held y (d .rules)
       (change (change (positions y d) (cell payer column) (pay falls cost)) (cell other column) (receive gain))
       (λ j. sumOf (needAt y (d .rules) t′ j) (x′ ++ w′))
   paid y payer other column falls cost gain hp ho hc pays less left =
@@ -61,7 +63,7 @@ module _ (x x′ w′ : List Order) (d : Day) (buy sell : Order) (p n : ℕ) (t�
   room : (payer other column falls cost gain fees : ℕ) → payer < d .rules .participants
       → other < d .rules .participants → column < columnsOf Money (d .rules) → cost ≤ falls → gain + fees ≡ cost
       → falls ≤ (position (d .money) (cell payer column)) .blocked → (c : ℕ) → c < columnsOf Money (d .rules)
-      → totalAt (d .rules .participants)
+      → totalAt Money (d .rules .participants)
       (change (change (d .money) (cell payer column) (pay falls cost)) (cell other column) (receive gain)) c
       + cond (eqb column c) fees 0 ≤ totalLimit Money
   room payer other column falls cost gain fees hp ho hc pays shared has c k =
@@ -73,7 +75,7 @@ module _ (x x′ w′ : List Order) (d : Day) (buy sell : Order) (p n : ℕ) (t�
       within false = refl
 
   trade-held : (y : Asset)
-      → Held (d .rules) (columnsOf y (d .rules)) (totalLimit y) (positions y after) (needsOf y after (x′ ++ w′))
+      → Held y (d .rules) (positions y after) (needsOf y after (x′ ++ w′))
   unfolding settle
   trade-held Money =
       let column = currencyOf (d .rules) (buy .security) in

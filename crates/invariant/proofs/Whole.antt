@@ -4,6 +4,7 @@ use native.Mathlib.Omega.{arith}
 use mathlib.Core.Path.{_≡_}
 use lib.ListN.{length}
 use Rattle.market.specs.declared.Ticket.{Ticket}
+use Rattle.market.specs.declared.Access.the-variants.{Member}
 use Rattle.market.specs.declared.Order.{Order}
 use Rattle.market.specs.declared.Phase.the-variants.{Open}
 use Rattle.market.specs.declared.TimeInForce.the-variants.{FillOrKill}
@@ -13,11 +14,11 @@ use Rattle.market.specs.Needs.{limitOf}
 use Rattle.market.specs.Positions.{blockFor, releaseFor}
 use Rattle.market.specs.Calls.{entryOf}
 use Rattle.market.specs.Matching.{Filled, fill}
-use Rattle.market.specs.Questions.{firstNo, orderQuestions}
+use Rattle.market.specs.Questions.{firstNo, memberQuestions, orderQuestions}
 use Rattle.market.specs.Entry.{admitted, entered}
 use Rattle.market.proofs.Questions.{all-yes, yes}
 use Rattle.market.proofs.Known.{OrderOk}
-use Rattle.market.proofs.Phases.{whole-open}
+use Rattle.market.proofs.Phases.{member-open}
 use Rattle.market.proofs.Turnovers.{limit-bound}
 use Rattle.invariant.specs.Standing.{KindOk, Standing}
 use Rattle.invariant.proofs.Flight.{fill-few, fill-flight}
@@ -32,7 +33,7 @@ limit-fits d g o ok k =
 
 -- a member of a group that passed its questions: the day stays sound, and a trade takes a waiting order off or is the
 -- entry's last
-module _ (d : Day) (p : ℕ) (m : Ticket) (g : Standing d) (e : firstNo (orderQuestions d p m FillOrKill) ≡ 0) where
+module _ (d : Day) (p : ℕ) (m : Ticket) (g : Standing d) (e : firstNo (memberQuestions d p m) ≡ 0) where
   abbrev o : Order
   o = entryOf d p m
 
@@ -42,13 +43,13 @@ module _ (d : Day) (p : ℕ) (m : Ticket) (g : Standing d) (e : firstNo (orderQu
   isOpen : d .phase ≡ Open
   unfolding orderQuestions
   isOpen =
-      let qs = orderQuestions d p m FillOrKill in
-      whole-open (d .phase) (yes 6 qs (all-yes qs tt e))
+      let qs = memberQuestions d p m in
+      member-open (d .phase) (yes 6 qs (all-yes qs tt e))
 
   pub whole-standing : Standing ((entered d o FillOrKill) .day)
   unfolding entered
   whole-standing =
-      flight-ends (filled .day) (filled .entry) (fill-flight (admitted d o) o (flight-starts d p m FillOrKill g isOpen e)) FillOrKill
+      flight-ends (filled .day) (filled .entry) (fill-flight (admitted d o) o (flight-starts d p m Member FillOrKill g isOpen e)) FillOrKill
       (λ h. absurd (omega arith))
 
   pub whole-few : length ((entered d o FillOrKill) .trades) + length ((entered d o FillOrKill) .day .waiting)

@@ -9,7 +9,8 @@ use Rattle.market.specs.declared.Phase.the-variants.{Open}
 use Rattle.market.specs.Limits.{columns, maxLots, maxParticipants, maxSecurities, maxWaiting, positionNumbers}
 use Rattle.market.specs.Tests.{sumOf}
 use Rattle.market.specs.declared.Rules.{Rules}
-use Rattle.market.specs.Day.{Asset, Day, columnsOf, row, cell, position, positions, totalLimit, turnoverAt}
+use Rattle.market.specs.declared.Asset.{Asset}
+use Rattle.market.specs.Day.{Day, columnsOf, row, cell, position, positions, totalLimit, turnoverAt}
 use Rattle.market.specs.Codes.{arrivalOf, codeLeft, codesOf, given}
 use Rattle.market.specs.Needs.{needAt, only, piecesOf}
 use Rattle.market.specs.Positions.{totalAt}
@@ -20,13 +21,14 @@ use Rattle.market.proofs.Known.{KeptOk, OrderOk, RulesOk}
 use Rattle.market.proofs.Turnovers.{TurnoverOk}
 use Rattle.market.proofs.Codes.{CodesOk, Numbered}
 
--- in the first n columns of m, blocked amounts are the needs, and totals are within the limit
-pub record Held (r : Rules) (n limit : ℕ) (m : List ℕ) (need : ℕ → ℕ) : Type 0 where
-  pub wide : n ≤ columns
+-- in the asset's columns of m, blocked amounts are the needs, and totals are within the limit
+pub record Held (x : Asset) (r : Rules) (m : List ℕ) (need : ℕ → ℕ) : Type 0 where
+  pub wide : columnsOf x r ≤ columns
   pub rows : r .participants ≤ maxParticipants
   pub positions : length m ≡ positionNumbers
-  pub blocked : (p c : ℕ) → p < r .participants → c < n → (position m (cell p c)) .blocked ≡ need (cell p c)
-  pub topped : (c : ℕ) → c < n → totalAt (r .participants) m c ≤ limit
+  pub blocked : (p c : ℕ) → p < r .participants → c < columnsOf x r
+      → (position m (cell p c)) .blocked ≡ need (cell p c)
+  pub topped : (c : ℕ) → c < columnsOf x r → totalAt x (r .participants) m c ≤ totalLimit x
 
 -- what these orders need of an asset at place j
 abbrev pub needsOf : Asset → Day → List Order → ℕ → ℕ
@@ -36,7 +38,7 @@ needsOf x d w j = sumOf (needAt x (d .rules) (d .turnover) j) w
 pub record Backed (pending : List Order) (d : Day) : Type 0 where
   pub rulesOk : RulesOk (d .rules)
   pub held : (x : Asset)
-      → Held (d .rules) (columnsOf x (d .rules)) (totalLimit x) (positions x d) (needsOf x d (pending ++ d .waiting))
+      → Held x (d .rules) (positions x d) (needsOf x d (pending ++ d .waiting))
 
 -- an order's kind goes with the phase
 abbrev pub KindOk : Day → Order → Type 0

@@ -11,12 +11,12 @@ use Rattle.market.specs.Day.{Day}
 use Rattle.market.specs.TradeList.{Trade}
 use Rattle.market.specs.Answers.{Result, numbersOf}
 use Rattle.market.specs.Calls.{entryOf}
-use Rattle.market.specs.Questions.{orderQuestions}
+use Rattle.market.specs.Questions.{memberQuestions, orderQuestions}
 use Rattle.market.specs.Entry.{entered}
 use Rattle.market.specs.Linked.{Group, memberBy, members, passed, stopped, withMember}
 use Rattle.market.proofs.Logic.{within-high}
 use Rattle.market.proofs.Questions.{all-yes, yes}
-use Rattle.orders.specs.Entering.{orderNo}
+use Rattle.orders.specs.Entering.{memberNo}
 
 -- members that filled so many lots in these trades, before the rest of the group
 abbrev pub before : ℕ → List Trade → Group → Group
@@ -39,15 +39,15 @@ module _ (d : Day) (p : ℕ) (m : Ticket) where
   abbrev result : Result
   result = entered d (entryOf d p m) FillOrKill
 
-  pub member-few : orderNo d p m FillOrKill ≡ 0 → (numbersOf (result .answer)) .filled ≤ maxLots
+  pub member-few : memberNo d p m ≡ 0 → (numbersOf (result .answer)) .filled ≤ maxLots
   unfolding entered orderQuestions
   member-few e =
-      let qs = orderQuestions d p m FillOrKill in
+      let qs = memberQuestions d p m in
       omega (arith, within-high 1 maxLots (m .lots) (yes 7 qs (all-yes qs tt e)))
 
   -- the group from this member on
   module _ (at filled : ℕ) (ts : List Trade) (ms : List Ticket) where
-    pub member-accepted : orderNo d p m FillOrKill ≡ 0
+    pub member-accepted : memberNo d p m ≡ 0
         → before filled ts (members at d p (m ∷ ms))
         ≡ before (filled + (numbersOf (result .answer)) .filled) (ts ++ result .trades)
         (members (suc at) (result .day) p ms)
@@ -56,7 +56,7 @@ module _ (d : Day) (p : ℕ) (m : Ticket) where
         ap (λ (n : ℕ). before filled ts (memberBy n at result (λ d′. members (suc at) d′ p ms))) e
         ∙ before-member filled ts result (members (suc at) (result .day) p ms)
 
-    pub member-refused : (n : ℕ) → 0 < n → orderNo d p m FillOrKill ≡ n
+    pub member-refused : (n : ℕ) → 0 < n → memberNo d p m ≡ n
         → before filled ts (members at d p (m ∷ ms)) ≡ stopped n at
     unfolding members
     member-refused zero h e = absurd (omega arith)

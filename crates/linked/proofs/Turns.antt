@@ -5,9 +5,9 @@ use native.Mathlib.Numerals.{add-one}
 use native.Mathlib.Omega.{arith}
 use mathlib.Core.Path.{_≡_, refl, ap, sym, _∙_, subst}
 use mathlib.Core.List.{List, [], _∷_, _++_, append-nil}
-use mathlib.Core.Bool.{false}
 use lib.ListN.{length, take, drop, getD, drop-of-length-le, length-append, length-drop, length-take}
 use lib.Seq.{drop-cons, getD-take, length-take-le}
+use Rattle.market.specs.declared.Access.the-variants.{Member}
 use Rattle.market.specs.declared.Answer.{Answer}
 use Rattle.market.specs.declared.Answer.the-variants.{Done, Refused}
 use Rattle.market.specs.declared.Carried.{Carried}
@@ -15,6 +15,7 @@ use Rattle.market.specs.declared.Ticket.{Ticket}
 use Rattle.market.specs.declared.Order.{Order}
 use Rattle.market.specs.declared.OrderBook.{OrderBook}
 use Rattle.market.specs.declared.Phase.{Phase}
+use Rattle.market.specs.declared.Phase.the-variants.{Open}
 use Rattle.market.specs.declared.Rules.{Rules}
 use Rattle.market.specs.declared.TimeInForce.the-variants.{FillOrKill}
 use Rattle.market.specs.Limits.{lentAtLeast, maxCodes, maxLots, maxMembers, maxSecurities, maxWaiting, minMembers}
@@ -22,7 +23,6 @@ use Rattle.market.specs.Limits.{numbersPerTrade}
 use Rattle.market.specs.Day.{Day}
 use Rattle.market.specs.Parts.{listing}
 use Rattle.market.specs.View.{dayOf}
-use Rattle.market.specs.Sound.{isCollecting}
 use Rattle.market.specs.TradeList.{Trade, written}
 use Rattle.market.specs.Answers.{Result, numbersOf}
 use Rattle.market.specs.Calls.{entryOf, linked}
@@ -35,8 +35,8 @@ use Rattle.invariant.specs.Standing.{Standing}
 use Rattle.invariant.proofs.Sound.{ready-standing}
 use Rattle.invariant.proofs.Whole.{whole-few, whole-standing}
 use Rattle.matching.specs.Filling.{openDay}
-use Rattle.orders.specs.Entering.{Accepts, Enterable, EntersAs, entryWith, orderNo}
-use Rattle.orders.proofs.Answered.{accepts, codes-given, few-lots, in-table, opens, same-day, whole-matched}
+use Rattle.orders.specs.Entering.{Accepts, Enterable, EntersAs, entryWith, memberNo}
+use Rattle.orders.proofs.Answered.{accepts, codes-given, few-lots, in-table, member-opens, same-day}
 use Rattle.linked.specs.Group.{Groupable}
 use Rattle.linked.proofs.Calling.{group-carries}
 use Rattle.linked.proofs.Lent.{lentFrom, put-back, returned, returned-written, written-length}
@@ -162,7 +162,7 @@ module _ {s : From} {m k l : List ℕ} {b : OrderBook} {filled made i : ℕ} (t 
     runs-here =
         t .runs ∙ ap (λ (x : List Ticket). before filled (t .trades) (members (i + 1) d (s .owner) x)) (next-member z h)
 
-    module _ (n : ℕ) (en : n ≡ orderNo d (s .owner) q FillOrKill) where
+    module _ (n : ℕ) (en : n ≡ memberNo d (s .owner) q) where
       pub tells-no : 0 < n → Tells s l filled made i m k l b (Refused n (i + 1))
       tells-no some = (
         runs-here ∙ member-refused d (s .owner) q (i + 1) filled (t .trades) rest n some (sym en),
@@ -171,20 +171,20 @@ module _ {s : From} {m k l : List ℕ} {b : OrderBook} {filled made i : ℕ} (t 
 
       -- no question is answered "no"
       module _ (none : n ≡ 0) where
-        asked : orderNo d (s .owner) q FillOrKill ≡ 0
+        asked : memberNo d (s .owner) q ≡ 0
         asked = sym en ∙ none
 
         pub known : q .security < maxSecurities
-        known = in-table (s .rules) (s .phase) m k b (t .stays) (s .owner) q FillOrKill asked
+        known = in-table (s .rules) (s .phase) m k b (t .stays) (s .owner) q Member FillOrKill asked
 
         abbrev e : Order
         e = entryWith (b .codes) (s .owner) q
 
-        matched : isCollecting (s .phase) ≡ false
-        matched = whole-matched (s .rules) (s .phase) m k b (t .stays) (s .owner) q FillOrKill refl asked
+        opens : s .phase ≡ Open
+        opens = member-opens (s .rules) (s .phase) m k b (t .stays) (s .owner) q asked
 
         accepted : {o : Order} → o ≡ e → Accepts (s .rules) (listing (s .rules) (q .security)) b o FillOrKill m k
-        accepted = accepts (s .rules) (s .phase) m k b (t .stays) (s .owner) q FillOrKill asked matched
+        accepted = accepts (s .rules) (s .phase) m k b (t .stays) (s .owner) q Member FillOrKill asked opens
 
         -- the list is lent from here on
         module _ (at : ℕ) (here : at ≡ numbersPerTrade * made) where
@@ -205,14 +205,13 @@ module _ {s : From} {m k l : List ℕ} {b : OrderBook} {filled made i : ℕ} (t 
               → EntersAs (entered (openDay r m k b) o FillOrKill) r (lentFrom l at) m1 k1 part b1) where
             done : EntersAs result (s .rules) (lentFrom l at) m1 k1 part b1
             done =
-                let same = same-day (s .rules) (s .phase) m k b (t .stays) (s .owner) q FillOrKill asked matched in
+                let same = same-day (s .rules) (s .phase) m k b (t .stays) (s .owner) q Member FillOrKill asked opens in
                 subst (λ (x : Day). EntersAs (entered x e FillOrKill) (s .rules) (lentFrom l at) m1 k1 part b1) (sym same)
                 (rw (← eo) (enters (s .rules) (accepted eo)))
 
             day-is : dayAt s m1 k1 b1 ≡ result .day
             day-is =
-                let phase = opens (s .rules) (s .phase) m k b (t .stays) (s .owner) q FillOrKill asked matched in
-                ap (λ (x : Phase). dayOf (s .rules) x m1 k1 b1) phase ∙ done .day
+                ap (λ (x : Phase). dayOf (s .rules) x m1 k1 b1) opens ∙ done .day
 
             lots-is : b1 .filled ≡ (numbersOf (result .answer)) .filled
             lots-is = ap (λ (x : Answer). (numbersOf x) .filled) (done .answer)

@@ -1,6 +1,7 @@
 // The linked group: orders of kind A of one participant, each on what its predecessor left. All of them, or none. Order
 // book, positions and the first numbers of the trade list are saved once, and put back where a member is refused.
 use amounts::within;
+use market::Access;
 use market::Answer;
 use market::Carried;
 use market::LENT_AT_LEAST;
@@ -22,13 +23,12 @@ ghost use mathlib.Core.Path.{_≡_};
 ghost use mathlib.Core.List.{_++_};
 ghost use Prim.Native.Nat.{_≤_};
 ghost use lib.ListN.{drop, length, take};
-ghost use Rattle.market.specs.declared.TimeInForce.the-variants.{FillOrKill};
 ghost use Rattle.market.specs.Limits.{lentAtLeast};
 ghost use Rattle.market.specs.View.{dayOf};
 ghost use Rattle.market.specs.Calls.{linked};
 ghost use Rattle.market.specs.Parts.{Carries, Ready};
 ghost use Rattle.invariant.specs.Standing.{Standing};
-ghost use Rattle.orders.specs.Entering.{orderNo};
+ghost use Rattle.orders.specs.Entering.{memberNo};
 ghost use Rattle.linked.specs.Group.{Groupable};
 
 // The first numbers of the lent list: all that a group can write to.
@@ -68,7 +68,7 @@ fn first_no<'a>(
     member: Ticket,
 ) -> u64
     requires { ⌜ Standing (dayOf rules phase (now money) (now pieces) book) ⌝ }
-    ensures { λ r. ⌜ r ≡ orderNo (dayOf rules phase (now (money .entry)) (now (pieces .entry)) book) participant member FillOrKill ⌝ }
+    ensures { λ r. ⌜ r ≡ memberNo (dayOf rules phase (now (money .entry)) (now (pieces .entry)) book) participant member ⌝ }
 {
     let turnovers = book.turnover;
     let force = TimeInForce::FillOrKill;
@@ -82,6 +82,7 @@ fn first_no<'a>(
         pieces,
         participant,
         member,
+        Access::Member,
         force,
     );
     if 0 < number {

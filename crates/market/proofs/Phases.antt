@@ -1,7 +1,7 @@
 -- Laws of question 6: the phase of a call that it admits.
 use mathlib.Core.Path.{_≡_, refl, sym, subst}
 use mathlib.Core.Bool.{true, false}
-use Rattle.market.specs.declared.Access.the-variants.{ClosingOrder, EndCollecting, EndSession, FillOrKill, Kept}
+use Rattle.market.specs.declared.Access.the-variants.{ClosingOrder, EndCollecting, EndSession, Kept, Member}
 use Rattle.market.specs.declared.Phase.{Phase}
 use Rattle.market.specs.declared.Phase.the-variants.{Closed, Closing, Collecting, Open}
 use Rattle.market.specs.declared.TimeInForce.{TimeInForce}
@@ -60,9 +60,9 @@ enters-kept k x e c = go k (subst (λ (y : Phase). admits y (orderAccess k) ≡ 
     go force.ImmediateOrCancel h = never h
     go force.FillOrKill h = never h
 
--- a whole-or-nothing order enters only while open
-pub whole-open : (x : Phase) → admits x FillOrKill ≡ true → x ≡ Open
-whole-open Open e = refl
-whole-open Collecting e = never e
-whole-open Closing e = never e
-whole-open Closed e = never e
+-- a member of a group enters only while open
+pub member-open : (x : Phase) → admits x Member ≡ true → x ≡ Open
+member-open Open e = refl
+member-open Collecting e = never e
+member-open Closing e = never e
+member-open Closed e = never e

@@ -2,6 +2,8 @@
 use Prim.Native.Nat.{ℕ, _+_, _*_}
 use mathlib.Core.List.{List}
 use lib.ListN.{getD}
+use Rattle.market.specs.declared.Asset.{Asset}
+use Rattle.market.specs.declared.Asset.the-variants.{Money, Pieces}
 use Rattle.market.specs.declared.Kind.the-variants as kind
 use Rattle.market.specs.declared.Order.{Order}
 use Rattle.market.specs.declared.Phase.{Phase}
@@ -35,10 +37,6 @@ noTurnover = record { pieces = 0; value = 0 }
 
 abbrev pub noOrder : Order
 noOrder = record { code = 0; participant = 0; side = Buy; security = 0; lots = 0; kind = kind.Kept 0 }
-
--- what a position is held in
-pub data Asset : Type 0 where
-  Money Pieces : Asset
 
 -- the first for money, the second for pieces
 abbrev pub ifMoney : {A : Type 0} → Asset → A → A → A
@@ -75,6 +73,11 @@ position l j = record { free = getD l (freeAt j) 0; blocked = getD l (blockedAt 
 -- "the market's own account" in a currency (T-03): what is free in its row
 abbrev pub account : List ℕ → ℕ → ℕ
 account l column = (position l (cell market column)) .free
+
+-- what a total counts beside the participants: "A currency's total counts the market's account in" (T-03), a security's
+-- nothing
+abbrev pub accountIn : Asset → List ℕ → ℕ → ℕ
+accountIn x l column = ifMoney x (account l column) 0
 
 -- the row of a security
 abbrev pub row : Rules → ℕ → Security

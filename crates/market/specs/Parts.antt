@@ -17,7 +17,8 @@ use Rattle.market.specs.declared.Session.the-variants as session
 use Rattle.market.specs.declared.State.{State}
 use Rattle.market.specs.declared.Ticket.{Ticket}
 use Rattle.market.specs.Limits.{maxLot, maxNominal, maxRate}
-use Rattle.market.specs.Day.{Money, Pieces, row}
+use Rattle.market.specs.declared.Asset.the-variants.{Money, Pieces}
+use Rattle.market.specs.Day.{row}
 use Rattle.market.specs.View.{Sized, dayOf, view}
 use Rattle.market.specs.Sound.{sound}
 use Rattle.market.specs.Calls.{Call, cancel, closingOrder, decrease, endCollecting, endSession, increase}

@@ -7,7 +7,8 @@ use Rattle.market.specs.declared.Rules.{Rules}
 use Rattle.market.specs.declared.Security.{Security}
 use Rattle.market.specs.declared.Side.the-variants.{Buy, Sell}
 use Rattle.market.specs.declared.TimeInForce.the-variants.{ImmediateOrCancel, Kept}
-use Rattle.market.specs.Day.{Day, Money, Pieces, account, noSecurity, turnoverAt}
+use Rattle.market.specs.declared.Asset.the-variants.{Money, Pieces}
+use Rattle.market.specs.Day.{Day, account, noSecurity, turnoverAt}
 use Rattle.market.specs.Needs.{closingPrice, moneyFor, nearest, piecesOf, sumFor, valueFor}
 use Rattle.market.specs.Calls.{Call, cancel, closingOrder, endCollecting, endSession, increase, order, startClosing}
 use Rattle.market.specs.Calls.{startCollecting}

@@ -1,9 +1,9 @@
 -- Question 6: "Does the phase allow it?", as a case for each phase and call (T-04). Each kind of order is a call of its own,
--- and a member of a group is a whole-or-nothing order.
+-- and so is a member of a group: "Members then meet 4 onwards".
 use mathlib.Core.Bool.{Bool, true, false}
 use Rattle.market.specs.declared.Access.{Access}
 use Rattle.market.specs.declared.Access.the-variants.{ClosingOrder, EndCollecting, EndSession, FillOrKill}
-use Rattle.market.specs.declared.Access.the-variants.{ImmediateOrCancel, Kept, StartClosing, StartCollecting}
+use Rattle.market.specs.declared.Access.the-variants.{ImmediateOrCancel, Kept, Member, StartClosing, StartCollecting}
 use Rattle.market.specs.declared.Phase.{Phase}
 use Rattle.market.specs.declared.Phase.the-variants.{Closed, Closing, Collecting, Open}
 use Rattle.market.specs.declared.TimeInForce.{TimeInForce}
@@ -22,6 +22,7 @@ abbrev pub admits : Phase → Access → Bool
 admits Open Kept = true
 admits Open ImmediateOrCancel = true
 admits Open FillOrKill = true
+admits Open Member = true
 admits Open ClosingOrder = false
 admits Open StartCollecting = true
 admits Open EndCollecting = false
@@ -31,6 +32,7 @@ admits Open EndSession = false
 admits Collecting Kept = true
 admits Collecting ImmediateOrCancel = false
 admits Collecting FillOrKill = false
+admits Collecting Member = false
 admits Collecting ClosingOrder = false
 admits Collecting StartCollecting = false
 admits Collecting EndCollecting = true
@@ -40,6 +42,7 @@ admits Collecting EndSession = false
 admits Closing Kept = false
 admits Closing ImmediateOrCancel = false
 admits Closing FillOrKill = false
+admits Closing Member = false
 admits Closing ClosingOrder = true
 admits Closing StartCollecting = false
 admits Closing EndCollecting = false
@@ -49,6 +52,7 @@ admits Closing EndSession = true
 admits Closed Kept = false
 admits Closed ImmediateOrCancel = false
 admits Closed FillOrKill = false
+admits Closed Member = false
 admits Closed ClosingOrder = false
 admits Closed StartCollecting = false
 admits Closed EndCollecting = false

@@ -2,13 +2,14 @@
 use Prim.Native.Nat.{ℕ, _+_, _-_}
 use mathlib.Core.List.{List}
 use lib.ListN.{set}
+use Rattle.market.specs.declared.Asset.{Asset}
 use Rattle.market.specs.declared.Order.{Order}
 use Rattle.market.specs.Day.{Position}
 use Rattle.market.specs.declared.Turnover.{Turnover}
 use Rattle.market.specs.Limits.{market}
 use Rattle.market.specs.Tests.{sumBelow}
 use Rattle.market.specs.declared.Rules.{Rules}
-use Rattle.market.specs.Day.{Day, account, blockedAt, currencyOf, freeAt, row, cell, position, positions}
+use Rattle.market.specs.Day.{Day, accountIn, blockedAt, currencyOf, freeAt, row, cell, position, positions}
 use Rattle.market.specs.Day.{turnoverAt, withLots, withMoney, withPieces, withPositions}
 use Rattle.market.specs.Needs.{assetOf, bothFees, need, piecesOf, cellFor, proceeds, sumFor, valueFor, withFee}
 
@@ -92,6 +93,6 @@ counted r t s p n = set t s (counting (piecesOf (row r s) n) (valueFor (row r s)
 abbrev pub total : Position → ℕ
 total p = p .free + p .blocked
 
--- a currency's or a security's total over all participants; it "counts the market's account in" (T-03)
-abbrev pub totalAt : ℕ → List ℕ → ℕ → ℕ
-totalAt participants l column = account l column + sumBelow participants (λ p. total (position l (cell p column)))
+-- a currency's or a security's total "over all participants"; a currency's "counts the market's account in" (T-03)
+abbrev pub totalAt : Asset → ℕ → List ℕ → ℕ → ℕ
+totalAt x participants l column = accountIn x l column + sumBelow participants (λ p. total (position l (cell p column)))

@@ -5,7 +5,8 @@ use lib.ListN.{length, take}
 use Rattle.market.specs.declared.Answer.{Answer}
 use Rattle.market.specs.declared.Phase.the-variants.{Closed, Closing, Collecting, Open}
 use Rattle.market.specs.Day.{Position}
-use Rattle.market.specs.Day.{Asset, Day, cell, positions, withPhase, withPositions}
+use Rattle.market.specs.declared.Asset.{Asset}
+use Rattle.market.specs.Day.{Day, cell, positions, withPhase, withPositions}
 use Rattle.market.specs.Positions.{change, draw, receive}
 use Rattle.market.specs.Waiting.{allLeave, leave, indexIn, indexOf}
 use Rattle.market.specs.TradeList.{written}

@@ -2,13 +2,15 @@
 use Prim.Native.Nat.{ℕ}
 use mathlib.Core.Path.{_≡_, refl}
 use mathlib.Core.List.{[], _∷_}
-use lib.ListN.{replicate, take}
+use lib.ListN.{replicate, set, take}
+use Rattle.market.specs.declared.Asset.the-variants.{Money, Pieces}
 use Rattle.market.specs.declared.Rules.{Rules}
 use Rattle.market.specs.declared.Side.the-variants.{Buy, Sell}
 use Rattle.market.specs.declared.TimeInForce.the-variants.{ImmediateOrCancel, Kept}
-use Rattle.market.specs.Day.{Day, Money, Pieces, Position, account, cell, noSecurity, position, turnoverAt}
+use Rattle.market.specs.Day.{Day, Position, account, cell, freeAt, noSecurity, position, turnoverAt, withPieces}
+use Rattle.market.specs.Limits.{market}
 use Rattle.market.specs.Answers.{Numbers, numbersOf}
-use Rattle.market.specs.Calls.{cancel, closingOrder, endCollecting, endSession, increase, startClosing}
+use Rattle.market.specs.Calls.{cancel, closingOrder, decrease, endCollecting, endSession, increase, startClosing}
 use Rattle.market.specs.Calls.{startCollecting}
 use Rattle.market.specs.Opening.{opening}
 use Rattle.market.specs.Edge.{after, buy, gives, listAfter, refusal, registered, sell}
@@ -45,6 +47,18 @@ unfoldable pub odd : Day
 odd =
     after ((opening (tariffRules 1 1 1000)) .day)
     (increase Money 0 0 199 ∷ increase Pieces 1 0 2 ∷ sell 1 99 1 Kept ∷ [])
+
+-- one participant, one security: he has so many pieces, and 1 stands in the market's row of them
+unfoldable pub besides : ℕ → Day
+besides pieces =
+    let d = (opening (record {
+      participants = 1;
+      currencies = 1;
+      securities = 1;
+      table = (tariffRules 10 5 0) .table;
+      rate = 0;
+    })) .day in
+    withPieces d (set (set (d .pieces) (freeAt (cell 0 0)) pieces) (freeAt (cell market 0)) 1)
 
 -- the money of participant p in currency 0
 abbrev pub moneyOf : Day → ℕ → Position
@@ -88,10 +102,14 @@ pub record TariffEdge : Type 0 where
   -- "A currency's total counts the market's account in"
   pub full : gives fills (increase Money 0 0 999999999970000) ≡ registered 0 0 0 0
   pub overfull : gives fills (increase Money 0 0 999999999970001) ≡ refusal 9 0
+  -- a security's is over participants alone: what stands in the market's row of pieces isn't read
+  pub unread : gives (besides 1000000000000) (decrease Pieces 0 0 1) ≡ registered 0 0 0 0
+  pub uncounted : gives (besides 999999999999) (increase Pieces 0 0 1) ≡ registered 0 0 0 0
+  pub fullPieces : gives (besides 1000000000000) (increase Pieces 0 0 1) ≡ refusal 9 0
 
 -- all of them hold
 pub tariffEdge : TariffEdge
-unfolding opens after gives listAfter held offers fills odd
+unfolding opens after gives listAfter held offers fills odd besides
 tariffEdge = record {
   highest = refl;
   tooHigh = refl;
@@ -113,4 +131,7 @@ tariffEdge = record {
   closing = refl;
   full = refl;
   overfull = refl;
+  unread = refl;
+  uncounted = refl;
+  fullPieces = refl;
 }

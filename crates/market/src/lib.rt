@@ -83,6 +83,12 @@ pub fn limits() -> [u64; 22]
     ]
 }
 
+// What a position is held in.
+pub enum Asset {
+    Money,
+    Pieces,
+}
+
 pub enum Side {
     Buy,
     Sell,
@@ -109,11 +115,12 @@ pub enum TimeInForce {
     FillOrKill,
 }
 
-// The calls that question 6 is asked of, each kind of order a call of its own; a member of a group is a whole-or-nothing order.
+// The calls that question 6 is asked of, each kind of order a call of its own, and so a member of a group.
 pub enum Access {
     Kept,
     ImmediateOrCancel,
     FillOrKill,
+    Member,
     ClosingOrder,
     StartCollecting,
     EndCollecting,

@@ -15,7 +15,9 @@ use Rattle.market.specs.declared.Side.the-variants.{Buy, Sell}
 use Rattle.market.specs.declared.Turnover.{Turnover}
 use Rattle.market.specs.Limits.{market, maxCodes, maxLots, maxPrice, moneyLimit, numbersPerTrade}
 use Rattle.market.specs.declared.Rules.{Rules}
-use Rattle.market.specs.Day.{Asset, Day, Money, Pieces, currencyOf, row, noOrder, orderAt, cell, turnoverAt}
+use Rattle.market.specs.declared.Asset.{Asset}
+use Rattle.market.specs.declared.Asset.the-variants.{Money, Pieces}
+use Rattle.market.specs.Day.{Day, columnsOf, currencyOf, row, noOrder, orderAt, cell, totalLimit, turnoverAt}
 use Rattle.market.specs.Day.{withMoney, withPieces}
 use Rattle.market.specs.View.{dayOf}
 use Rattle.market.specs.Needs.{assetOf, bothFees, cellFor, columnOf, limitOf, need, needAt, piecesOf, proceeds, sumFor}
@@ -52,9 +54,9 @@ few-waiting r x m k b st = record {
 }
 
 -- what is needed is blocked, so it can be paid, in money as in pieces
-payable : {r : Rules} {n limit : ℕ} {m : List ℕ} {needs : ℕ → ℕ}
-    → Held r n limit m needs → limit ≤ moneyLimit → (q s c fall cost gain : ℕ)
-    → q < r .participants → s < r .participants → c < n → fall ≤ needs (cell q c) → cost ≤ fall → gain ≤ cost
+payable : {y : Asset} {r : Rules} {m : List ℕ} {needs : ℕ → ℕ}
+    → Held y r m needs → totalLimit y ≤ moneyLimit → (q s c fall cost gain : ℕ)
+    → q < r .participants → s < r .participants → c < columnsOf y r → fall ≤ needs (cell q c) → cost ≤ fall → gain ≤ cost
     → Payable m (cell q c) fall cost (cell s c) gain
 payable h top q s c fall cost gain hq hs hc needed pays gains = record {
   size = h .positions;

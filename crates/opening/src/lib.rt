@@ -19,7 +19,7 @@ ghost use Prim.Native.Nat.{_≤_};
 ghost use Rattle.market.specs.Limits.{maxSecurities};
 ghost use Rattle.market.specs.View.{view};
 ghost use Rattle.market.specs.Opening.{opened as openedDay, wrongLine};
-ghost use Rattle.market.specs.Contract.{Opens};
+ghost use Rattle.market.specs.Contract.{Opens, emptyState};
 ghost use Rattle.opening.specs.Opening.{RefusedOpening};
 
 // The place of the first wrong row, from 1; 0 where all are in range.
@@ -41,6 +41,7 @@ fn first_wrong(rules: Rules) -> u64
 // Counts, table and rate as given, everything else at zero.
 fn opened(rules: Rules) -> State
     ensures { λ r. ⌜ view r ≡ openedDay rules ⌝ }
+    ensures { λ r. ⌜ r ≡ emptyState rules ⌝ }
 {
     let table = rules.table;
     let blank = Order {

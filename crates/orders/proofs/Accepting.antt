@@ -61,11 +61,11 @@ module _ {r : Rules} {l : Listing} {b : OrderBook} {e : Order} {f : TimeInForce}
   passed =
       let p = a .participant in
       let q = a .member in
-      let qs = orderQuestions d p q f in
+      let qs = orderQuestions d p q (a .access) f in
       let y = all-yes qs tt (a .asked) in
       subst (λ (x : Order). Passed d x f) (sym (a .entry))
       (record {
-        flight = flight-starts d p q f (a .standing) refl (a .asked);
+        flight = flight-starts d p q (a .access) f (a .standing) refl (a .asked);
         covers = yes 14 qs y;
         participant = ltb-true p (r .participants) (yes 4 qs y);
         security = ltb-true (q .security) (r .securities) (yes 5 qs y);

@@ -5,6 +5,8 @@ use mathlib.Core.Path.{_≡_, refl, ap, sym, _∙_, subst}
 use mathlib.Core.List.{List, [], _∷_}
 use mathlib.Core.Bool.{true, false}
 use borrow.Author.Tests.{leb-true, ltb-true}
+use Rattle.market.specs.declared.Access.{Access}
+use Rattle.market.specs.declared.Access.the-variants.{Member}
 use Rattle.market.specs.declared.Ticket.{Ticket}
 use Rattle.market.specs.declared.Order.{Order}
 use Rattle.market.specs.declared.OrderBook.{OrderBook}
@@ -21,14 +23,14 @@ use Rattle.market.specs.Sound.{isCollecting}
 use Rattle.market.specs.Phases.{admits, orderAccess}
 use Rattle.market.specs.Questions.{Question, ask, entryQuestions, firstNo, orderQuestions}
 use Rattle.market.proofs.Questions.{AllYes, all-yes, hides, passes, yes}
-use Rattle.market.proofs.Phases.{enters-kept, enters-open, whole-open}
+use Rattle.market.proofs.Phases.{enters-kept, enters-open, member-open}
 use Rattle.invariant.specs.Standing.{Standing}
 use Rattle.invariant.proofs.Placed.{kept-placeable}
 use Rattle.matching.specs.Filling.{openDay}
 use Rattle.matching.specs.Orders.{FewLots, waitingIn}
 use Rattle.matching.proofs.Ready.{few-waiting}
 use Rattle.waiting.specs.Appending.{Admits}
-use Rattle.orders.specs.Entering.{Accepts, Known, entryWith, fillableIn, orderNo}
+use Rattle.orders.specs.Entering.{Accepts, Known, entryWith, fillableIn, memberNo, orderNo}
 use Rattle.orders.proofs.Asking.{whole-last}
 
 module _ (r : Rules) (x : Phase) (m k : List ℕ) (b : OrderBook) (standing : Standing (dayOf r x m k b)) where
@@ -44,65 +46,50 @@ module _ (r : Rules) (x : Phase) (m k : List ℕ) (b : OrderBook) (standing : St
   pub few-lots : FewLots (b .count) (waitingIn b)
   few-lots = few-waiting r x m k b standing
 
-  -- an order
-  module _ (p : ℕ) (t : Ticket) (f : TimeInForce) where
+  -- an order, or a member of a group
+  module _ (p : ℕ) (t : Ticket) (a : Access) (f : TimeInForce) where
     abbrev asked : List Question
-    asked = entryQuestions d p t f
+    asked = entryQuestions d p t a f
 
     abbrev last : List Question
     last = ask 15 (fillableIn f (waitingIn b) (entryWith (b .codes) p t)) ∷ []
 
     -- a "no" before question 15
-    pub no-first : (n : ℕ) → 0 < n → n ≡ firstNo asked → orderNo d p t f ≡ n
-    no-first n h e = whole-last r x m k b p t f ∙ hides asked last (omega arith) ∙ sym e
+    pub no-first : (n : ℕ) → 0 < n → n ≡ firstNo asked → orderNo d p t a f ≡ n
+    no-first n h e = whole-last r x m k b p t a f ∙ hides asked last (omega arith) ∙ sym e
 
     -- there is none, and question 15 is asked of the entry e
     module _ (none : firstNo asked ≡ 0) {e : Order} (entry : e ≡ entryWith (b .codes) p t) where
-      to-last : orderNo d p t f ≡ firstNo last
-      to-last = whole-last r x m k b p t f ∙ passes asked last (all-yes asked tt none)
+      to-last : orderNo d p t a f ≡ firstNo last
+      to-last = whole-last r x m k b p t a f ∙ passes asked last (all-yes asked tt none)
 
-      pub no-whole : fillableIn f (waitingIn b) e ≡ false → orderNo d p t f ≡ 15
+      pub no-whole : fillableIn f (waitingIn b) e ≡ false → orderNo d p t a f ≡ 15
       no-whole h = to-last ∙ rw (← entry, h)
 
-      pub no-none : fillableIn f (waitingIn b) e ≡ true → orderNo d p t f ≡ 0
+      pub no-none : fillableIn f (waitingIn b) e ≡ true → orderNo d p t a f ≡ 0
       no-none h = to-last ∙ rw (← entry, h)
 
     -- all are answered "yes"
-    module _ (none : orderNo d p t f ≡ 0) where
-      yeses : AllYes (orderQuestions d p t f)
+    module _ (none : orderNo d p t a f ≡ 0) where
+      yeses : AllYes (orderQuestions d p t a f)
       unfolding orderQuestions
-      yeses = all-yes (orderQuestions d p t f) tt none
+      yeses = all-yes (orderQuestions d p t a f) tt none
 
       pub in-table : t .security < maxSecurities
       unfolding orderQuestions
       in-table =
           omega (
             arith,
-            ltb-true (t .security) (r .securities) (yes 5 (orderQuestions d p t f) yeses),
+            ltb-true (t .security) (r .securities) (yes 5 (orderQuestions d p t a f) yeses),
             standing .backed .rulesOk .securities,
           )
 
-      enters : admits x (orderAccess f) ≡ true
+      enters : admits x a ≡ true
       unfolding orderQuestions
-      enters = yes 6 (orderQuestions d p t f) yeses
+      enters = yes 6 (orderQuestions d p t a f) yeses
 
-      -- while collecting it is a kept one, which only waits
-      pub waits : isCollecting x ≡ true → {e : Order} → e ≡ entryWith (b .codes) p t → Admits r x (listing r (t .security)) b e m k
-      waits collects entry =
-          rw entry
-          (record {
-            listing = refl;
-            standing = standing;
-            placeable =
-                kept-placeable d p t
-                (subst (λ (z : TimeInForce). orderNo d p t z ≡ 0) (enters-kept f x enters collects) none);
-          })
-
-      -- otherwise the phase is open
-      module _ (matched : isCollecting x ≡ false) where
-        pub opens : x ≡ Open
-        opens = enters-open f x enters matched
-
+      -- the phase is open
+      module _ (opens : x ≡ Open) where
         pub same-day : d ≡ openDay r m k b
         same-day = ap (λ (z : Phase). dayOf r z m k b) opens
 
@@ -112,11 +99,28 @@ module _ (r : Rules) (x : Phase) (m k : List ℕ) (b : OrderBook) (standing : St
           standing = subst Standing same-day standing;
           participant = p;
           member = t;
+          access = a;
           entry = entry;
-          asked = ap (λ (z : Day). orderNo z p t f) (sym same-day) ∙ none;
+          asked = ap (λ (z : Day). orderNo z p t a f) (sym same-day) ∙ none;
         }
 
-    -- a whole-or-nothing order enters only while open
-    pub whole-matched : f ≡ FillOrKill → orderNo d p t f ≡ 0 → isCollecting x ≡ false
-    whole-matched e none =
-        ap isCollecting (whole-open x (subst (λ (z : TimeInForce). admits x (orderAccess z) ≡ true) e (enters none)))
+  -- an order whose questions are all answered "yes"
+  module _ (p : ℕ) (t : Ticket) (f : TimeInForce) (none : orderNo d p t (orderAccess f) f ≡ 0) where
+    -- while collecting it is a kept one, which only waits
+    pub waits : isCollecting x ≡ true → {e : Order} → e ≡ entryWith (b .codes) p t → Admits r x (listing r (t .security)) b e m k
+    waits collects entry =
+        let kept = enters-kept f x (enters p t (orderAccess f) f none) collects in
+        rw entry
+        (record {
+          listing = refl;
+          standing = standing;
+          placeable = kept-placeable d p t (subst (λ (z : TimeInForce). orderNo d p t (orderAccess z) z ≡ 0) kept none);
+        })
+
+    -- otherwise the phase is open
+    pub order-opens : isCollecting x ≡ false → x ≡ Open
+    order-opens matched = enters-open f x (enters p t (orderAccess f) f none) matched
+
+  -- a member enters only while open
+  pub member-opens : (p : ℕ) (t : Ticket) → memberNo d p t ≡ 0 → x ≡ Open
+  member-opens p t none = member-open x (enters p t Member FillOrKill none)

@@ -5,6 +5,7 @@ use mathlib.Core.Path.{_≡_, refl, ap, sym, _∙_}
 use mathlib.Core.List.{List, [], _∷_, _++_}
 use mathlib.Core.Bool.{true}
 use borrow.Author.Tests.{ltb-true}
+use Rattle.market.specs.declared.Access.{Access}
 use Rattle.market.specs.declared.Ticket.{Ticket}
 use Rattle.market.specs.declared.OrderBook.{OrderBook}
 use Rattle.market.specs.declared.Phase.{Phase}
@@ -43,46 +44,47 @@ reckonable l t {codes} {p} {m} a price = record {
 }
 
 -- the table's questions, of a day of these parts
-module _ (r : Rules) (x : Phase) (money pieces : List ℕ) (b : OrderBook) (p : ℕ) (m : Ticket) (k : TimeInForce) where
-  abbrev d : Day
-  d = dayOf r x money pieces b
+module _ (r : Rules) (x : Phase) (money pieces : List ℕ) (b : OrderBook) (p : ℕ) (m : Ticket) (a : Access) (k : TimeInForce)
+  where
+    abbrev d : Day
+    d = dayOf r x money pieces b
 
-  room-is : (k : TimeInForce) → roomWith k (b .count) ≡ roomFor k d
-  room-is Kept = rw (first-length (b .count) (b .orders))
-  room-is ImmediateOrCancel = refl
-  room-is FillOrKill = refl
+    room-is : (k : TimeInForce) → roomWith k (b .count) ≡ roomFor k d
+    room-is Kept = rw (first-length (b .count) (b .orders))
+    room-is ImmediateOrCancel = refl
+    room-is FillOrKill = refl
 
-  -- those from 4 to 14
-  asked-in-parts : firstNo (entryQuestions d p m k)
-      ≡ firstNo (earlyQuestions (r .participants) (r .securities) x p m k
-      ++ laterQuestions (listing r (m .security)) (turnoverAt (b .turnover) (m .security)) (b .count) (b .codes) p m k money pieces)
-  asked-in-parts = rw (room-is k, covered-is d (listing r (m .security)) (entryWith (b .codes) p m) refl)
+    -- those from 4 to 14
+    asked-in-parts : firstNo (entryQuestions d p m a k)
+        ≡ firstNo (earlyQuestions (r .participants) (r .securities) x p m a
+        ++ laterQuestions (listing r (m .security)) (turnoverAt (b .turnover) (m .security)) (b .count) (b .codes) p m k money pieces)
+    asked-in-parts = rw (room-is k, covered-is d (listing r (m .security)) (entryWith (b .codes) p m) refl)
 
-  fillable-is : (k : TimeInForce) → fillableIn k (waitingIn b) (entryWith (b .codes) p m) ≡ fillable k d (entryOf d p m)
-  fillable-is Kept = refl
-  fillable-is ImmediateOrCancel = refl
-  fillable-is FillOrKill = refl
+    fillable-is : (k : TimeInForce) → fillableIn k (waitingIn b) (entryWith (b .codes) p m) ≡ fillable k d (entryOf d p m)
+    fillable-is Kept = refl
+    fillable-is ImmediateOrCancel = refl
+    fillable-is FillOrKill = refl
 
-  -- and 15 after them
-  pub whole-last : orderNo d p m k
-      ≡ firstNo (entryQuestions d p m k ++ (ask 15 (fillableIn k (waitingIn b) (entryWith (b .codes) p m)) ∷ []))
-  unfolding orderQuestions
-  whole-last = rw (fillable-is k)
+    -- and 15 after them
+    pub whole-last : orderNo d p m a k
+        ≡ firstNo (entryQuestions d p m a k ++ (ask 15 (fillableIn k (waitingIn b) (entryWith (b .codes) p m)) ∷ []))
+    unfolding orderQuestions
+    whole-last = rw (fillable-is k)
 
 -- the first "no" of 4 to 14, where so many codes are given
-module _ (r : Rules) (x : Phase) (codes p : ℕ) (m : Ticket) (k : TimeInForce) where
+module _ (r : Rules) (x : Phase) (codes p : ℕ) (m : Ticket) (a : Access) (k : TimeInForce) where
   abbrev early : List Question
-  early = earlyQuestions (r .participants) (r .securities) x p m k
+  early = earlyQuestions (r .participants) (r .securities) x p m a
 
   abbrev later : List Turnover → (count codes : ℕ) → List ℕ → List ℕ → List Question
   later t count codes money pieces =
       laterQuestions (listing r (m .security)) (turnoverAt t (m .security)) count codes p m k money pieces
 
   pub no-early : (t : List Turnover) (count : ℕ) (money pieces : List ℕ) (n : ℕ) → 0 < n → n ≡ firstNo early
-      → EntryNo r x t count codes money pieces p m k n
+      → EntryNo r x t count codes money pieces p m a k n
   no-early t count money pieces n h e = λ b turnover counted given.
       let rest = later (b .turnover) (b .count) (b .codes) money pieces in
-      e ∙ sym (asked-in-parts r x money pieces b p m k ∙ hides early rest (omega arith))
+      e ∙ sym (asked-in-parts r x money pieces b p m a k ∙ hides early rest (omega arith))
 
   -- 4 to 7 are answered "yes"
   module _ (known : Known r codes) (none : firstNo early ≡ 0) where
@@ -109,11 +111,11 @@ module _ (r : Rules) (x : Phase) (codes p : ℕ) (m : Ticket) (k : TimeInForce) 
         }
 
     pub no-later : (t : List Turnover) (count : ℕ) (money pieces : List ℕ) (n : ℕ)
-        → n ≡ firstNo (later t count codes money pieces) → EntryNo r x t count codes money pieces p m k n
+        → n ≡ firstNo (later t count codes money pieces) → EntryNo r x t count codes money pieces p m a k n
     no-later t count money pieces n e = λ b turnover counted given.
         let rest = later (b .turnover) (b .count) (b .codes) money pieces in
         e
         ∙ ap (λ (z : List Turnover). firstNo (later z count codes money pieces)) (sym turnover)
         ∙ ap (λ (z : ℕ). firstNo (later (b .turnover) z codes money pieces)) (sym counted)
         ∙ ap (λ (z : ℕ). firstNo (later (b .turnover) (b .count) z money pieces)) (sym given)
-        ∙ sym (asked-in-parts r x money pieces b p m k ∙ passes early rest yeses)
+        ∙ sym (asked-in-parts r x money pieces b p m a k ∙ passes early rest yeses)

@@ -11,6 +11,7 @@ use Rattle.market.specs.declared.Ticket.{Ticket}
 use Rattle.market.specs.declared.Order.{Order}
 use Rattle.market.specs.declared.OrderBook.{OrderBook}
 use Rattle.market.specs.declared.Phase.{Phase}
+use Rattle.market.specs.declared.Phase.the-variants.{Open}
 use Rattle.market.specs.declared.Rules.{Rules}
 use Rattle.market.specs.declared.TimeInForce.{TimeInForce}
 use Rattle.market.specs.Limits.{lentAtLeast, maxSecurities}
@@ -20,6 +21,7 @@ use Rattle.market.specs.Sound.{isCollecting}
 use Rattle.market.specs.TradeList.{written}
 use Rattle.market.specs.Answers.{Result}
 use Rattle.market.specs.Calls.{Call, order}
+use Rattle.market.specs.Phases.{orderAccess}
 use Rattle.market.specs.Questions.{Question, entryQuestions, firstNo, questions}
 use Rattle.market.specs.Entry.{entered, placed, taken}
 use Rattle.market.specs.Step.{effect}
@@ -52,7 +54,7 @@ module _ (r : Rules) (x : Phase) (m k : List ℕ) (b : OrderBook) (ready : Ready
   -- an order, with the list v lent
   module _ (p : ℕ) (t : Ticket) (f : TimeInForce) (v : List ℕ) where
     abbrev asked : List Question
-    asked = entryQuestions d p t f
+    asked = entryQuestions d p t (orderAccess f) f
 
     abbrev call : Call
     call = order p t f
@@ -66,13 +68,13 @@ module _ (r : Rules) (x : Phase) (m k : List ℕ) (b : OrderBook) (ready : Ready
         carries-refuse r x m k b v call (ready .sound) 2 (omega arith) (rw (lt-leb lentAtLeast (length v) h))
 
     module _ (lent : lentAtLeast ≤ length v) where
-      from-four : firstNo (questions d (length v) call) ≡ orderNo d p t f
+      from-four : firstNo (questions d (length v) call) ≡ orderNo d p t (orderAccess f) f
       unfolding questions
       from-four = rw (le-leb lentAtLeast (length v) lent)
 
       pub refuse-first : (n : ℕ) → 0 < n → n ≡ firstNo asked → declines n
       refuse-first n h e =
-          carries-refuse r x m k b v call (ready .sound) n h (from-four ∙ answered.no-first r x m k b standing p t f n h e)
+          carries-refuse r x m k b v call (ready .sound) n h (from-four ∙ answered.no-first r x m k b standing p t (orderAccess f) f n h e)
 
       -- while collecting, question 15 is not asked
       pub collects-whole : firstNo asked ≡ 0 → isCollecting x ≡ true → (e : Order) → fillableIn f (waitingIn b) e ≡ true
@@ -84,16 +86,16 @@ module _ (r : Rules) (x : Phase) (m k : List ℕ) (b : OrderBook) (ready : Ready
         pub refuse-whole : fillableIn f (waitingIn b) e ≡ false → declines 15
         refuse-whole h =
             carries-refuse r x m k b v call (ready .sound) 15 (omega arith)
-            (from-four ∙ answered.no-whole r x m k b standing p t f none entry h)
+            (from-four ∙ answered.no-whole r x m k b standing p t (orderAccess f) f none entry h)
 
         -- question 15 is answered "yes"
         module _ (whole : fillableIn f (waitingIn b) e ≡ true) where
-          clear : orderNo d p t f ≡ 0
-          clear = answered.no-none r x m k b standing p t f none entry whole
+          clear : orderNo d p t (orderAccess f) f ≡ 0
+          clear = answered.no-none r x m k b standing p t (orderAccess f) f none entry whole
 
           -- its security stands in the table
           pub in-table : t .security < maxSecurities
-          in-table = answered.in-table r x m k b standing p t f clear
+          in-table = answered.in-table r x m k b standing p t (orderAccess f) f clear
 
           -- the order is registered with what the book has last
           abbrev registers : (m′ k′ v′ : List ℕ) → OrderBook → Type 0
@@ -123,8 +125,11 @@ module _ (r : Rules) (x : Phase) (m k : List ℕ) (b : OrderBook) (ready : Ready
 
           -- otherwise it is matched
           module _ (matched : isCollecting x ≡ false) where
+            opens : x ≡ Open
+            opens = answered.order-opens r x m k b standing p t f clear matched
+
             accepts : Accepts r (listing r (t .security)) b e f m k
-            accepts = answered.accepts r x m k b standing p t f clear matched entry
+            accepts = answered.accepts r x m k b standing p t (orderAccess f) f clear opens entry
 
             pub enterable : Enterable (listing r (t .security)) b e f m k v
             enterable = record { rules = r; accepts = accepts; lent = omega (arith, lent, few-lots .room) }
@@ -133,14 +138,13 @@ module _ (r : Rules) (x : Phase) (m k : List ℕ) (b : OrderBook) (ready : Ready
             unfolding effect
             effect-is =
                 ap (λ (z : Order). taken d z f) (sym entry) ∙ taken-matched d e f matched
-                ∙ ap (λ (z : Day). entered z e f) (answered.same-day r x m k b standing p t f clear matched)
+                ∙ ap (λ (z : Day). entered z e f) (answered.same-day r x m k b standing p t (orderAccess f) f clear opens)
 
             pub order-enters : (m′ k′ v′ : List ℕ) (b′ : OrderBook)
                 → Enters (listing r (t .security)) b e f m k v m′ k′ v′ b′ → registers m′ k′ v′ b′
             order-enters m′ k′ v′ b′ enters =
                 let y = enters r accepts in
-                let phase = answered.opens r x m k b standing p t f clear matched in
                 carries-accept r x m k b v call (ready .sound) m′ k′ v′ _ (from-four ∙ clear)
                 (y .answer ∙ sym (ap (λ (z : Result). z .answer) effect-is))
-                (ap (λ (z : Phase). dayOf r z m′ k′ b′) phase ∙ y .day ∙ sym (ap (λ (z : Result). z .day) effect-is))
+                (ap (λ (z : Phase). dayOf r z m′ k′ b′) opens ∙ y .day ∙ sym (ap (λ (z : Result). z .day) effect-is))
                 (y .list ∙ sym (ap (λ (z : Result). written (z .trades) v) effect-is))

@@ -4,6 +4,8 @@ use mathlib.Core.Path.{_≡_}
 use mathlib.Core.List.{List, [], _∷_}
 use mathlib.Core.Bool.{Bool, true}
 use lib.ListN.{length}
+use Rattle.market.specs.declared.Access.{Access}
+use Rattle.market.specs.declared.Access.the-variants.{Member}
 use Rattle.market.specs.declared.Answer.the-variants.{Done}
 use Rattle.market.specs.declared.Kind.the-variants as kind
 use Rattle.market.specs.declared.Ticket.{Ticket}
@@ -24,7 +26,7 @@ use Rattle.market.specs.TradeList.{written}
 use Rattle.market.specs.Answers.{Result}
 use Rattle.market.specs.Calls.{entryOf}
 use Rattle.market.specs.Matching.{fitting}
-use Rattle.market.specs.Phases.{admits, orderAccess}
+use Rattle.market.specs.Phases.{admits}
 use Rattle.market.specs.Questions.{Question, ask, entryQuestions, firstNo, orderQuestions}
 use Rattle.market.specs.Entry.{entered}
 use Rattle.market.specs.Parts.{ListingOk, listing}
@@ -33,9 +35,12 @@ use Rattle.invariant.specs.Standing.{Standing}
 use Rattle.matching.specs.Filling.{openDay}
 use Rattle.waiting.specs.Claims.{coveredBy}
 
--- the first "no" of an order's questions from 4 on
-abbrev pub orderNo : Day → ℕ → Ticket → TimeInForce → ℕ
-orderNo d p m k = firstNo (orderQuestions d p m k)
+-- the first "no" of an order's questions from 4 on, and of a member's; a is the call that question 6 is asked of
+abbrev pub orderNo : Day → ℕ → Ticket → Access → TimeInForce → ℕ
+orderNo d p m a k = firstNo (orderQuestions d p m a k)
+
+abbrev pub memberNo : Day → ℕ → Ticket → ℕ
+memberNo d p m = orderNo d p m Member FillOrKill
 
 -- the order as it enters, where so many codes are given
 abbrev pub entryWith : ℕ → ℕ → Ticket → Order
@@ -60,11 +65,11 @@ fillableIn ImmediateOrCancel w e = true
 fillableIn FillOrKill w e = e .lots ≤? fitting e w
 
 -- the questions that ask for no row of the table
-abbrev pub earlyQuestions : ℕ → ℕ → Phase → ℕ → Ticket → TimeInForce → List Question
-earlyQuestions participants securities x p m k =
+abbrev pub earlyQuestions : ℕ → ℕ → Phase → ℕ → Ticket → Access → List Question
+earlyQuestions participants securities x p m a =
     ask 4 (known p participants) ∷
     ask 5 (known (m .security) securities) ∷
-    ask 6 (admits x (orderAccess k)) ∷
+    ask 6 (admits x a) ∷
     ask 7 (lotsSound (m .lots)) ∷ []
 
 -- those that read listing and turnover of the order's security, its participant's positions, and counts
@@ -91,10 +96,10 @@ pub record Known (r : Rules) (given : ℕ) : Type 0 where
   pub codes : given ≤ maxCodes
 
 -- n is the first "no" of questions 4 to 14, on every day whose order book has this turnover, count and codes
-abbrev pub EntryNo : Rules → Phase → List Turnover → (count codes : ℕ) → (m k : List ℕ) → ℕ → Ticket → TimeInForce → ℕ → Type 0
-EntryNo r x t count codes m k p ticket f n =
+abbrev pub EntryNo : Rules → Phase → List Turnover → (count codes : ℕ) → (m k : List ℕ) → ℕ → Ticket → Access → TimeInForce → ℕ → Type 0
+EntryNo r x t count codes m k p ticket a f n =
     (b : OrderBook) → b .turnover ≡ t → b .count ≡ count → b .codes ≡ codes
-    → n ≡ firstNo (entryQuestions (dayOf r x m k b) p ticket f)
+    → n ≡ firstNo (entryQuestions (dayOf r x m k b) p ticket a f)
 
 -- under rules r, l is the listing of the entry's security, the day is sound, and e is an order that passed its questions
 pub record Accepts (r : Rules) (l : Listing) (b : OrderBook) (e : Order) (f : TimeInForce) (m k : List ℕ) : Type 0 where
@@ -102,8 +107,9 @@ pub record Accepts (r : Rules) (l : Listing) (b : OrderBook) (e : Order) (f : Ti
   pub standing : Standing (openDay r m k b)
   pub participant : ℕ
   pub member : Ticket
+  pub access : Access
   pub entry : e ≡ entryOf (openDay r m k b) participant member
-  pub asked : orderNo (openDay r m k b) participant member f ≡ 0
+  pub asked : orderNo (openDay r m k b) participant member access f ≡ 0
 
 -- there are such rules, and room for a trade with each waiting order
 pub record Enterable (l : Listing) (b : OrderBook) (e : Order) (f : TimeInForce) (m k v : List ℕ) : Type 0 where

@@ -36,7 +36,7 @@ ghost use Prim.Native.Nat.{_≤_};
 ghost use Rattle.market.specs.Limits.{maxCodes, maxWaiting};
 ghost use Rattle.market.specs.Waiting.{indexOf};
 ghost use Rattle.market.specs.Calls.{cancel as cancelCall, order as orderCall};
-ghost use Rattle.market.specs.Phases.{admits as admitsCall, orderAccess};
+ghost use Rattle.market.specs.Phases.{orderAccess};
 ghost use Rattle.market.specs.Questions.{firstNo};
 ghost use Rattle.market.specs.Entry.{leftWaiting};
 ghost use Rattle.market.specs.Parts.{Carries, Ready};
@@ -90,14 +90,14 @@ pub fn is_fillable(book: OrderBook, force: TimeInForce, entry: Order) -> bool
     }
 }
 
-// Question 6 of an order, each kind a call of its own.
-fn admits_order(phase: Phase, force: TimeInForce) -> bool
-    ensures { λ r. ⌜ r ≡ admitsCall phase (orderAccess force) ⌝ }
+// An order as a call that question 6 is asked of, each kind a call of its own.
+pub fn access_of(force: TimeInForce) -> Access
+    ensures { λ r. ⌜ r ≡ orderAccess force ⌝ }
 {
     match force {
-        TimeInForce::Kept => admits(phase, Access::Kept),
-        TimeInForce::ImmediateOrCancel => admits(phase, Access::ImmediateOrCancel),
-        TimeInForce::FillOrKill => admits(phase, Access::FillOrKill),
+        TimeInForce::Kept => Access::Kept,
+        TimeInForce::ImmediateOrCancel => Access::ImmediateOrCancel,
+        TimeInForce::FillOrKill => Access::FillOrKill,
     }
 }
 
@@ -108,9 +108,9 @@ fn early_no(
     phase: Phase,
     participant: u64,
     member: Ticket,
-    force: TimeInForce,
+    access: Access,
 ) -> u64
-    ensures { λ r. ⌜ r ≡ firstNo (earlyQuestions participants securities phase participant member force) ⌝ }
+    ensures { λ r. ⌜ r ≡ firstNo (earlyQuestions participants securities phase participant member access) ⌝ }
 {
     if participants <= participant {
         return 4;
@@ -118,7 +118,7 @@ fn early_no(
     if securities <= member.security {
         return 5;
     }
-    if !admits_order(phase, force) {
+    if !admits(phase, access) {
         return 6;
     }
     if !within(1, MAX_LOTS, member.lots) {
@@ -158,7 +158,8 @@ fn later_no<'a>(
     0
 }
 
-// The first "no" of questions 4 to 14, which read no waiting order; 0 where there is none.
+// The first "no" of questions 4 to 14, which read no waiting order; 0 where there is none. Question 6 is asked of `access`:
+// an order of its kind, or a member of a group.
 pub fn order_no<'a>(
     rules: Rules,
     phase: Phase,
@@ -169,10 +170,11 @@ pub fn order_no<'a>(
     pieces: &'a [u64; 544],
     participant: u64,
     ticket: Ticket,
+    access: Access,
     force: TimeInForce,
 ) -> u64
     requires { ⌜ Known rules codes ⌝ }
-    ensures { λ r. ⌜ EntryNo rules phase turnovers count codes (now (money .entry)) (now (pieces .entry)) participant ticket force r ⌝ }
+    ensures { λ r. ⌜ EntryNo rules phase turnovers count codes (now (money .entry)) (now (pieces .entry)) participant ticket access force r ⌝ }
 {
     let early = early_no(
         rules.participants,
@@ -180,7 +182,7 @@ pub fn order_no<'a>(
         phase,
         participant,
         ticket,
-        force,
+        access,
     );
     if 0 < early {
         return early;
@@ -283,6 +285,7 @@ pub fn order(
         &*pieces,
         participant,
         ticket,
+        access_of(force),
         force,
     );
     if 0 < number {

@@ -13,7 +13,9 @@ use Rattle.market.specs.declared.Side.the-variants.{Buy, Sell}
 use Rattle.market.specs.declared.Turnover.{Turnover}
 use Rattle.market.specs.Limits.{maxCodes, maxLots, maxPrice, maxSecurities, maxWaiting, numbersPerTrade}
 use Rattle.market.specs.declared.Rules.{Rules}
-use Rattle.market.specs.Day.{Asset, Day, Money, Pieces, row, noOrder, orderAt, turnoverAt}
+use Rattle.market.specs.declared.Asset.{Asset}
+use Rattle.market.specs.declared.Asset.the-variants.{Money, Pieces}
+use Rattle.market.specs.Day.{Day, row, noOrder, orderAt, turnoverAt}
 use Rattle.market.specs.View.{dayOf}
 use Rattle.market.specs.Needs.{limitOf, needAt, piecesOf, valueFor}
 use Rattle.market.specs.Positions.{settle}

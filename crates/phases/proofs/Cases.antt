@@ -9,7 +9,7 @@ use lib.ListN.{drop, length, take}
 use borrow.Author.Tests.{eqb-false}
 use Rattle.market.specs.declared.Access.{Access}
 use Rattle.market.specs.declared.Access.the-variants.{ClosingOrder, EndCollecting, EndSession, FillOrKill}
-use Rattle.market.specs.declared.Access.the-variants.{ImmediateOrCancel, Kept, StartClosing, StartCollecting}
+use Rattle.market.specs.declared.Access.the-variants.{ImmediateOrCancel, Kept, Member, StartClosing, StartCollecting}
 use Rattle.market.specs.declared.Answer.the-variants.{Refused}
 use Rattle.market.specs.declared.Order.{Order}
 use Rattle.market.specs.declared.Phase.{Phase}
@@ -27,7 +27,7 @@ use Rattle.market.specs.Calls.{linked, order, startClosing, startCollecting}
 use Rattle.market.specs.Matching.{Filled, fill, traded}
 use Rattle.market.specs.Phases.{admits, orderAccess}
 use Rattle.market.specs.Questions.{Question, ask, closingQuestions, firstBy, firstNo, isFree}
-use Rattle.market.specs.Questions.{orderQuestions, questions, totalFits}
+use Rattle.market.specs.Questions.{memberQuestions, orderQuestions, questions, totalFits}
 use Rattle.market.specs.Entry.{admitted, entered, placed}
 use Rattle.market.specs.Linked.{Group, groupResult, memberBy, members, passed, stopped, withMember}
 use Rattle.market.specs.Step.{allQuestions, answerBy, effect, result, step}
@@ -42,6 +42,7 @@ pub as-before : AsBefore
 as-before Open Kept = refl
 as-before Open ImmediateOrCancel = refl
 as-before Open FillOrKill = refl
+as-before Open Member = refl
 as-before Open ClosingOrder = refl
 as-before Open StartCollecting = refl
 as-before Open EndCollecting = refl
@@ -50,6 +51,7 @@ as-before Open EndSession = refl
 as-before Collecting Kept = refl
 as-before Collecting ImmediateOrCancel = refl
 as-before Collecting FillOrKill = refl
+as-before Collecting Member = refl
 as-before Collecting ClosingOrder = refl
 as-before Collecting StartCollecting = refl
 as-before Collecting EndCollecting = refl
@@ -58,6 +60,7 @@ as-before Collecting EndSession = refl
 as-before Closing Kept = refl
 as-before Closing ImmediateOrCancel = refl
 as-before Closing FillOrKill = refl
+as-before Closing Member = refl
 as-before Closing ClosingOrder = refl
 as-before Closing StartCollecting = refl
 as-before Closing EndCollecting = refl
@@ -66,6 +69,7 @@ as-before Closing EndSession = refl
 as-before Closed Kept = refl
 as-before Closed ImmediateOrCancel = refl
 as-before Closed FillOrKill = refl
+as-before Closed Member = refl
 as-before Closed ClosingOrder = refl
 as-before Closed StartCollecting = refl
 as-before Closed EndCollecting = refl
@@ -180,52 +184,52 @@ member-number : (r : Result) (g : Group) → numberOf (withMember r g) ≡ numbe
 member-number r (stopped n at) = refl
 member-number r (passed d filled ts) = refl
 
--- of a whole-or-nothing order, questions 4 and 5 stand before question 6
-whole-six-no : (d : Day) (p : ℕ) (m : Ticket) → admits (d .phase) FillOrKill ≡ false
-    → firstNo (take 2 (orderQuestions d p m force.FillOrKill)) ≡ 0 → firstNo (orderQuestions d p m force.FillOrKill) ≡ 6
+-- of a member, questions 4 and 5 stand before question 6
+member-six-no : (d : Day) (p : ℕ) (m : Ticket) → admits (d .phase) Member ≡ false
+    → firstNo (take 2 (memberQuestions d p m)) ≡ 0 → firstNo (memberQuestions d p m) ≡ 6
 unfolding orderQuestions
-whole-six-no d p m h e =
-    let qs = orderQuestions d p m force.FillOrKill in
+member-six-no d p m h e =
+    let qs = memberQuestions d p m in
     rw h (six-no (take 2 qs) (drop 3 qs) tt e)
 
-whole-six-yes : (d : Day) (p : ℕ) (m : Ticket) → admits (d .phase) FillOrKill ≡ true
-    → firstNo (orderQuestions d p m force.FillOrKill) ≡ 6 → ⊥
+member-six-yes : (d : Day) (p : ℕ) (m : Ticket) → admits (d .phase) Member ≡ true
+    → firstNo (memberQuestions d p m) ≡ 6 → ⊥
 unfolding orderQuestions
-whole-six-yes d p m h e =
-    let qs = orderQuestions d p m force.FillOrKill in
+member-six-yes d p m h e =
+    let qs = memberQuestions d p m in
     six-yes (take 2 qs) (drop 3 qs) tt tt tt
     (ap (λ (z : Bool). firstNo (take 2 qs ++ (ask 6 z ∷ drop 3 qs))) (sym h) ∙ e)
 
-members-admitted : (ms : List Ticket) (at : ℕ) (d : Day) (p : ℕ) → admits (d .phase) FillOrKill ≡ true
+members-admitted : (ms : List Ticket) (at : ℕ) (d : Day) (p : ℕ) → admits (d .phase) Member ≡ true
     → numberOf (members at d p ms) ≡ 6 → ⊥
 unfolding members
 members-admitted [] at d p h e = omega arith
 members-admitted (m ∷ ms) at d p h e =
-    go (members-admitted ms (suc at) (r .day) p) (firstNo (orderQuestions d p m force.FillOrKill)) refl e
+    go (members-admitted ms (suc at) (r .day) p) (firstNo (memberQuestions d p m)) refl e
   where
     r : Result
     r = entered d (entryOf d p m) force.FillOrKill
 
-    go : (admits (r .day .phase) FillOrKill ≡ true → numberOf (members (suc at) (r .day) p ms) ≡ 6 → ⊥)
-        → (n : ℕ) → firstNo (orderQuestions d p m force.FillOrKill) ≡ n
+    go : (admits (r .day .phase) Member ≡ true → numberOf (members (suc at) (r .day) p ms) ≡ 6 → ⊥)
+        → (n : ℕ) → firstNo (memberQuestions d p m) ≡ n
         → numberOf (memberBy n at r (λ d′. members (suc at) d′ p ms)) ≡ 6 → ⊥
     go rest zero z e =
-        rest (ap (λ (x : Phase). admits x FillOrKill) (whole-phase d (entryOf d p m)) ∙ h)
+        rest (ap (λ (x : Phase). admits x Member) (whole-phase d (entryOf d p m)) ∙ h)
         (sym (member-number r (members (suc at) (r .day) p ms)) ∙ e)
-    go rest (suc n) z e = whole-six-yes d p m h (z ∙ e)
+    go rest (suc n) z e = member-six-yes d p m h (z ∙ e)
 
 -- a group whose first member meets question 6
 group-earlier : (d : Day) (l : List ℕ) (p n : ℕ) (m : Ticket) (ms : List Ticket)
-    → firstNo (earlier (asked d l (linked p n (m ∷ ms)) ++ orderQuestions d p m force.FillOrKill)) ≡ 0
-    → AllYes (asked d l (linked p n (m ∷ ms))) × (firstNo (take 2 (orderQuestions d p m force.FillOrKill)) ≡ 0)
+    → firstNo (earlier (asked d l (linked p n (m ∷ ms)) ++ memberQuestions d p m)) ≡ 0
+    → AllYes (asked d l (linked p n (m ∷ ms))) × (firstNo (take 2 (memberQuestions d p m)) ≡ 0)
 unfolding questions orderQuestions
 group-earlier d l p n m ms e =
-    let y = all-yes (earlier (asked d l (linked p n (m ∷ ms)) ++ orderQuestions d p m force.FillOrKill)) tt e in
+    let y = all-yes (earlier (asked d l (linked p n (m ∷ ms)) ++ memberQuestions d p m)) tt e in
     let z = y .1 .1 .1 in
     ((y .0, (y .1 .0, (y .1 .1 .0, tt))), rw (z .0, z .1 .0))
 
 group-refused : (d : Day) (l : List ℕ) (p n : ℕ) (m : Ticket) (ms : List Ticket) → AllYes (asked d l (linked p n (m ∷ ms)))
-    → firstNo (orderQuestions d p m force.FillOrKill) ≡ 6 → (step d l (linked p n (m ∷ ms))) .answer ≡ Refused 6 1
+    → firstNo (memberQuestions d p m) ≡ 6 → (step d l (linked p n (m ∷ ms))) .answer ≡ Refused 6 1
 unfolding questions effect step result members
 group-refused d l p zero m ms y six = absurd (omega (arith, within-low minMembers maxMembers 0 (y .1 .1 .0)))
 group-refused d l p (suc n) m ms y six = rw (y .0, y .1 .0, y .1 .1 .0, six)
@@ -241,7 +245,7 @@ group-asked d l p n (m ∷ ms) = record {
   refuses =
       λ h e.
       let y = group-earlier d l p n m ms e in
-      group-refused d l p n m ms (y .0) (whole-six-no d p m h (y .1));
+      group-refused d l p n m ms (y .0) (member-six-no d p m h (y .1));
   clears =
       λ h.
       not-six d l (linked p n (m ∷ ms)) (other-no (asked d l (linked p n (m ∷ ms))) tt)

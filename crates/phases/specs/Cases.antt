@@ -6,21 +6,21 @@ use mathlib.Core.Bool.{Bool, true, false, cond}
 use lib.ListN.{length}
 use Rattle.market.specs.declared.Access.{Access}
 use Rattle.market.specs.declared.Access.the-variants.{ClosingOrder, EndCollecting, EndSession, FillOrKill}
-use Rattle.market.specs.declared.Access.the-variants.{ImmediateOrCancel, Kept, StartClosing, StartCollecting}
+use Rattle.market.specs.declared.Access.the-variants.{ImmediateOrCancel, Kept, Member, StartClosing, StartCollecting}
 use Rattle.market.specs.declared.Answer.{Answer}
 use Rattle.market.specs.declared.Answer.the-variants.{Refused}
 use Rattle.market.specs.declared.Phase.{Phase}
 use Rattle.market.specs.declared.Phase.the-variants.{Closed, Closing, Collecting, Open}
 use Rattle.market.specs.declared.Ticket.{Ticket}
-use Rattle.market.specs.declared.TimeInForce.the-variants as force
 use Rattle.market.specs.Tests.{_=?_}
-use Rattle.market.specs.Day.{Asset, Day, withPhase}
+use Rattle.market.specs.declared.Asset.{Asset}
+use Rattle.market.specs.Day.{Day, withPhase}
 use Rattle.market.specs.Sound.{isClosing, isCollecting, keptIn}
 use Rattle.market.specs.Answers.{numbersOf}
 use Rattle.market.specs.Calls.{Call, cancel, closingOrder, decrease, endCollecting, endSession, increase}
 use Rattle.market.specs.Calls.{linked, order, startClosing, startCollecting}
 use Rattle.market.specs.Phases.{admits, orderAccess}
-use Rattle.market.specs.Questions.{Question, firstNo, orderQuestions, questions}
+use Rattle.market.specs.Questions.{Question, firstNo, memberQuestions, questions}
 use Rattle.market.specs.Step.{allQuestions, step}
 
 -- the phase is open
@@ -35,6 +35,7 @@ abbrev pub testBefore : Access → Phase → Bool
 testBefore Kept = keptIn
 testBefore ImmediateOrCancel = isOpen
 testBefore FillOrKill = isOpen
+testBefore Member = isOpen
 testBefore ClosingOrder = isClosing
 testBefore StartCollecting = isOpen
 testBefore EndCollecting = isCollecting
@@ -66,7 +67,7 @@ abbrev pub MembersSix : Day → List ℕ → ℕ → ℕ → List Ticket → Typ
 MembersSix d l p n [] = NeverSix d l (linked p n [])
 MembersSix d l p n (m ∷ ms) =
     let group = linked p n (m ∷ ms) in
-    Decided (d .phase) FillOrKill (earlier (allQuestions d (length l) group ++ orderQuestions d p m force.FillOrKill))
+    Decided (d .phase) Member (earlier (allQuestions d (length l) group ++ memberQuestions d p m))
     ((step d l group) .answer) 1
 
 -- what question 6 decides for each call, in whatever phase the day is

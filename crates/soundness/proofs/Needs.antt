@@ -18,7 +18,9 @@ use Rattle.market.specs.declared.Turnover.{Turnover}
 use Rattle.market.specs.Limits.{cells, columns, maxLots, maxPrice, maxSum}
 use Rattle.market.specs.Tests.{_=?_, allBelow, sumOf}
 use Rattle.market.specs.declared.Rules.{Rules}
-use Rattle.market.specs.Day.{Asset, Day, Money, Pieces, columnsOf, currencyOf, ifMoney}
+use Rattle.market.specs.declared.Asset.{Asset}
+use Rattle.market.specs.declared.Asset.the-variants.{Money, Pieces}
+use Rattle.market.specs.Day.{Day, columnsOf, currencyOf, ifMoney}
 use Rattle.market.specs.View.{firstOrders}
 use Rattle.market.specs.Day.{orderAt, cell, position, positions, totalLimit}
 use Rattle.market.specs.View.{view}
@@ -150,7 +152,7 @@ module _ (r : Rules) (t : List Turnover) (n : ℕ) (w : List Order) (i : ℕ) (l
 -- what is blocked is tested against the list, column by column
 pub columns-same : (x : Asset) (d : Day) (l : List ℕ) → HoldsNeeds d l → d .rules .participants ≤ columns
     → columnsOf x (d .rules) ≤ columns
-    → allBelow (columnsOf x (d .rules)) (columnSound (d .rules .participants) (totalLimit x) (ifMoney x 0 cells)
+    → allBelow (columnsOf x (d .rules)) (columnSound x (d .rules .participants) (totalLimit x) (ifMoney x 0 cells)
     (positions x d) l) ≡ assetSound x d
 unfolding assetSound blockedSound totalsSound columnSound
 columns-same x d l h hp hc = same _ _ there back
@@ -165,14 +167,14 @@ columns-same x d l h hp hc = same _ _ there back
         ≡ (position (positions x d) (cell p c)) .blocked =? needsAt x d (cell p c)
     needed p c i j = ap (λ (a : ℕ). (position (positions x d) (cell p c)) .blocked =? a) (h x (cell p c) (omega arith))
 
-    there : allBelow w (columnSound n (totalLimit x) (ifMoney x 0 cells) (positions x d) l) ≡ true → assetSound x d ≡ true
+    there : allBelow w (columnSound x n (totalLimit x) (ifMoney x 0 cells) (positions x d) l) ≡ true → assetSound x d ≡ true
     there e =
         both
         (below-intro n _ (λ p i. below-intro w _
         (λ c j. sym (needed p c i j) ∙ below-all n _ ((and-true (below-all w _ e c j)) .0) p i)))
         (below-intro w _ (λ c j. (and-true (below-all w _ e c j)) .1))
 
-    back : assetSound x d ≡ true → allBelow w (columnSound n (totalLimit x) (ifMoney x 0 cells) (positions x d) l) ≡ true
+    back : assetSound x d ≡ true → allBelow w (columnSound x n (totalLimit x) (ifMoney x 0 cells) (positions x d) l) ≡ true
     back e =
         let a = and-true e in
         below-intro w _ (λ c j. both

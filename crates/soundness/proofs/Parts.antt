@@ -14,7 +14,8 @@ use Rattle.market.specs.Limits.{columns, maxCurrencies, maxLots, maxParticipant
 use Rattle.market.specs.Limits.{maxWaiting}
 use Rattle.market.specs.Tests.{_and_, allOf, known}
 use Rattle.market.specs.declared.Rules.{Rules}
-use Rattle.market.specs.Day.{Day, Money, Pieces, currencyOf, row, turnoverAt}
+use Rattle.market.specs.declared.Asset.the-variants.{Money, Pieces}
+use Rattle.market.specs.Day.{Day, currencyOf, row, turnoverAt}
 use Rattle.market.specs.View.{view}
 use Rattle.market.specs.Parts.{ListingOk, listing}
 use Rattle.market.specs.Codes.{given, numbered, rising}

@@ -13,7 +13,9 @@ use Rattle.market.specs.declared.State.{State}
 use Rattle.market.specs.declared.Turnover.{Turnover}
 use Rattle.market.specs.Limits.{maxCurrencies, maxWaiting, cells}
 use Rattle.market.specs.Tests.{_=?_, _and_, _≤?_, allBelow, allOf}
-use Rattle.market.specs.Day.{Asset, Day, Money, Pieces, ifMoney, row, cell, position, turnoverAt}
+use Rattle.market.specs.declared.Asset.{Asset}
+use Rattle.market.specs.declared.Asset.the-variants.{Money, Pieces}
+use Rattle.market.specs.Day.{Day, ifMoney, row, cell, position, turnoverAt}
 use Rattle.market.specs.View.{firstOrders}
 use Rattle.market.specs.Day.{withMoney, withPieces}
 use Rattle.market.specs.View.{view}
@@ -49,9 +51,9 @@ abbrev pub coveredAt : ℕ → List ℕ → List ℕ → ℕ → Bool
 coveredAt first l needs j = (position l j) .blocked =? getD needs (first + j) 0
 
 -- one column of positions: what is blocked, and the total
-unfoldable pub columnSound : ℕ → ℕ → ℕ → List ℕ → List ℕ → ℕ → Bool
-columnSound participants limit first l needs c =
-    allBelow participants (λ p. coveredAt first l needs (cell p c)) and totalAt participants l c ≤? limit
+unfoldable pub columnSound : Asset → ℕ → ℕ → ℕ → List ℕ → List ℕ → ℕ → Bool
+columnSound x participants limit first l needs c =
+    allBelow participants (λ p. coveredAt first l needs (cell p c)) and totalAt x participants l c ≤? limit
 
 -- needs stand in one list: money at its cell, pieces behind all of these
 abbrev pub needCell : Asset → ℕ → ℕ

@@ -1,9 +1,10 @@
 // Is a state sound? Asked of any values at all, before anything is reckoned from them.
-use amounts::account_cell;
+use amounts::account_in;
 use amounts::cell_of;
 use amounts::need_of;
 use amounts::price_sound;
 use amounts::within;
+use market::Asset;
 use market::Kind;
 use market::Listing;
 use market::MAX_CODES;
@@ -230,9 +231,10 @@ fn orders_sound(
     last <= codes
 }
 
-// Is what is blocked in each column what is needed, and the column's total, with the market's account, within the limit?
-// No sum is made above it. Column by column in one loop.
+// Is what is blocked in each column what is needed, and the column's total, with the market's account in money, within
+// the limit? No sum is made above it. Column by column in one loop.
 fn positions_sound<'a>(
+    asset: Asset,
     participants: u64,
     columns: u64,
     limit: u64,
@@ -241,7 +243,7 @@ fn positions_sound<'a>(
     needs: &'a [u64; 544],
 ) -> bool
     requires { ⌜ (0 < participants) × (participants ≤ maxParticipants) × (columns ≤ allColumns) × (first ≤ cells) ⌝ }
-    ensures { λ r. ⌜ r ≡ allBelow columns (columnSound participants limit first (now (positions .entry)) (now (needs .entry))) ⌝ }
+    ensures { λ r. ⌜ r ≡ allBelow columns (columnSound asset participants limit first (now (positions .entry)) (now (needs .entry))) ⌝ }
 {
     let mut total: u64 = 0;
     let mut p: u64 = 0;
@@ -264,7 +266,7 @@ fn positions_sound<'a>(
         if p < participants {
             continue;
         }
-        if limit - total < positions[2 * account_cell(column)] {
+        if limit - total < account_in(asset, positions, column) {
             return false;
         }
         p = 0;
@@ -326,10 +328,19 @@ pub fn lent_sound<'a>(s: State, money: &'a [u64; 544], pieces: &'a [u64; 544]) -
     ) {
         return false;
     }
-    if !positions_sound(s.participants, s.currencies, MONEY_LIMIT, 0, money, &needs) {
+    if !positions_sound(
+        Asset::Money,
+        s.participants,
+        s.currencies,
+        MONEY_LIMIT,
+        0,
+        money,
+        &needs,
+    ) {
         return false;
     }
     positions_sound(
+        Asset::Pieces,
         s.participants,
         s.securities,
         PIECES_LIMIT,

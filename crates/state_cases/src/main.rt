@@ -1,5 +1,6 @@
 // Cases that no script can say, run on the engine: states made by hand, what lies past the counts, a million codes,
 // numbers too long for a line, and what a call leaves as it was. Lot 10, step 5.
+use engine::decrease_pieces;
 use engine::end_collecting;
 use engine::end_session;
 use engine::enter_closing_order;
@@ -453,6 +454,22 @@ fn increases_beside_an_account() {
     after(b"and by one more: 9", increase_money(s, 0, 0, 2));
 }
 
+// A security's total is over participants alone: what stands in the market's row of pieces is not read. One participant,
+// one security.
+fn pieces_in_the_markets_row() {
+    let o = opening(1, 1, 1, table(), 0);
+    let s = with_pieces(o.state, 256, 1, 0);
+    after(
+        b"pieces at their limit, one more in the market's row, sound",
+        decrease_pieces(with_pieces(s, 0, 1000000000000, 0), 0, 0, 1),
+    );
+    let s = after(
+        b"an increase up to the limit beside it",
+        increase_pieces(with_pieces(s, 0, 999999999999, 0), 0, 0, 1),
+    );
+    after(b"and by one more: 9", increase_pieces(s, 0, 0, 1));
+}
+
 // A day with anything past its counts.
 fn with_unread() -> State {
     let s = with_money(day(), 2, 18446744073709551615, 7);
@@ -864,6 +881,7 @@ fn states() {
     rates();
     accounts();
     increases_beside_an_account();
+    pieces_in_the_markets_row();
 }
 
 fn left_as_it_was() {

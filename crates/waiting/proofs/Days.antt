@@ -12,7 +12,9 @@ use Rattle.market.specs.declared.Side.the-variants.{Buy, Sell}
 use Rattle.market.specs.declared.Turnover.{Turnover}
 use Rattle.market.specs.Limits.{maxLots, maxPrice, moneyLimit}
 use Rattle.market.specs.Tests.{_≤?_}
-use Rattle.market.specs.Day.{Asset, Day, Money, Pieces, Position, ifMoney, cell, position, positions, totalLimit}
+use Rattle.market.specs.declared.Asset.{Asset}
+use Rattle.market.specs.declared.Asset.the-variants.{Money, Pieces}
+use Rattle.market.specs.Day.{Day, Position, ifMoney, cell, position, positions, totalLimit}
 use Rattle.market.specs.Day.{turnoverAt, withMoney, withPieces, withPositions}
 use Rattle.market.specs.Needs.{assetOf, columnOf, limitOf, need, needAt, cellFor}
 use Rattle.market.specs.Positions.{change, onNeed, total}

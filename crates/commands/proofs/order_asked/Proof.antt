@@ -2,9 +2,11 @@
 -- collecting, or as it enters.
 use Prim.Native.Nat.{ℕ, _≤_, _<_}
 use native.Mathlib.Omega.{arith}
-use mathlib.Core.Path.{refl, ap, sym, _∙_}
+use mathlib.Core.Path.{refl, ap, sym, subst, _∙_}
 use borrow.Author.Needs.{needs}
 use lib.ListN.{length}
+use Rattle.market.specs.declared.Access.{Access}
+use Rattle.market.specs.Phases.{orderAccess}
 use Rattle.market.specs.Limits.{lentAtLeast, maxSecurities}
 use Rattle.commands.specs.Command.{carried}
 use Rattle.orders.specs.Entering.{EntryNo, entryWith}
@@ -13,30 +15,48 @@ use Rattle.commands.proofs.Carrying.{does-call, entry-listed, entry-non
 use Rattle.commands.proofs.order_asked.Statement.{statement}
 use Rattle.commands.proofs.order_asked.Tie as tie
 
+access-of-requires : tie.Need-access-of-requires
+access-of-requires c κs = search needs
+
 order-no-requires : tie.Need-order-no-requires
 order-no-requires c κs = search needs
+
+-- the number is that of questions 4 to 14
+first : (c : tie.After-order-no) →
+    let a = c .before .before .args in
+    EntryNo (a .rules) (a .phase) (a .turnovers) (a .count) (a .codes) (a .money .now) (a .pieces .now) (a .participant) (a .ticket)
+    (orderAccess (a .force)) (a .force) (c .order-no .result)
+first c =
+    let a = c .before .before .args in
+    subst
+    (λ (z : Access). EntryNo (a .rules) (a .phase) (a .turnovers) (a .count) (a .codes) (a .money .now) (a .pieces .now)
+    (a .participant) (a .ticket) z (a .force) (c .order-no .result))
+    (c .before .access-of .ensures) (c .order-no .ensures)
 
 returns : tie.Need-returns
 unfolding carried
 returns c = λ b l ms e1 e2 e3 ready n.
     does-call _ _ _ _ b l _ _ _ l _ ready n
-    (refuse-first _ _ _ _ b ready _ _ _ l (omega (arith, n)) _ (c .if1 .taken) (c .before .order-no .ensures b e1 e2 e3))
+    (refuse-first _ _ _ _ b ready _ _ _ l (omega (arith, n)) _ (c .if1 .taken) (first (c .before) b e1 e2 e3))
 
 -- questions 4 to 14 are answered "yes"
-none : (e : tie.Else1) →
-    let a = e .before .before .args in
-    EntryNo (a .rules) (a .phase) (a .turnovers) (a .count) (a .codes) (a .money .now) (a .pieces .now) (a .participant) (a .ticket)
-    (a .force) 0
-none e =
-    let a = e .before .before .args in
-    entry-none (a .rules) (a .phase) (a .turnovers) (a .count) (a .codes) (a .money .now) (a .pieces .now) (a .participant) (a .ticket)
-    (a .force) (e .if1 .left) (e .before .order-no .ensures)
+abbrev start : tie.Else1 → tie.Start
+start e = e .before .before .before
 
-listed : (e : tie.Else1) → e .before .before .args .ticket .security < maxSecurities
+none : (e : tie.Else1) →
+    let a = (start e) .args in
+    EntryNo (a .rules) (a .phase) (a .turnovers) (a .count) (a .codes) (a .money .now) (a .pieces .now) (a .participant) (a .ticket)
+    (orderAccess (a .force)) (a .force) 0
+none e =
+    let a = (start e) .args in
+    entry-none (a .rules) (a .phase) (a .turnovers) (a .count) (a .codes) (a .money .now) (a .pieces .now) (a .participant) (a .ticket)
+    (orderAccess (a .force)) (a .force) (e .if1 .left) (first (e .before))
+
+listed : (e : tie.Else1) → (start e) .args .ticket .security < maxSecurities
 listed e =
-    let a = e .before .before .args in
+    let a = (start e) .args in
     entry-listed (a .rules) (a .phase) (a .turnovers) (a .count) (a .codes) (a .money .now) (a .pieces .now) (a .participant)
-    (a .ticket) (a .force) (e .before .before .pre) (none e)
+    (a .ticket) (orderAccess (a .force)) (a .force) ((start e) .pre) (none e)
 
 mul-row : tie.Need-mul-row
 mul-row c = omega (arith, listed (c .before))
@@ -56,7 +76,7 @@ unfolding carried
 returns-2 c =
     let o = c .before .before in
     let e = o .before .before .before in
-    let a = e .before .before .args in
+    let a = (start e) .args in
     let collects = sym (c .before .is-collecting .ensures) ∙ c .if2 .taken in (
       refl,
       refl,
@@ -78,7 +98,7 @@ returns-3 : tie.Need-returns-3
 returns-3 c =
     let o = c .before .before in
     let e = o .before .before .before in
-    let a = e .before .before .args in (
+    let a = (start e) .args in (
       refl,
       refl,
       record {
@@ -96,6 +116,7 @@ pub order-asked-spec : {M : Type 1} → statement M
 order-asked-spec =
     tie.close
     (tie.spec
+    access-of-requires
     order-no-requires
     returns
     mul-row

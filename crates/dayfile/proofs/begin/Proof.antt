@@ -8,7 +8,7 @@ ended-requires : tie.Need-ended-requires
 ended-requires c κs = search needs
 
 returns : tie.Need-returns
-returns c = begins-small (c .before .if1 .taken) (c .ended .ensures .0) (c .ended .ensures .1)
+returns c = begins-small (c .before .if1 .taken) (c .ended .ensures .0) (c .ended .ensures .1) (c .ended .ensures .2)
 
 too-long-requires : tie.Need-too-long-requires
 too-long-requires c κs = search needs

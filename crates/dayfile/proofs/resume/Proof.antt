@@ -72,7 +72,7 @@ returns-2 c =
     let b = parts k in
     let e = start b in
     fills-over (e .args .from) (b .before .rules-of .ensures) (b .book-of .ensures) (k .commands .ensures) (e .pre .1 .0)
-    (e .pre .1 .1) _
+    (e .pre .1 .1) _ (l .before .before .state-of .ensures)
     (omega (arith, l .if1 .left, k .commands .ensures .onward .size, e .pre .1 .1)) (p .put-positions .ensures)
 
 pub resume-spec : {M : Type 1} → statement M

@@ -14,7 +14,7 @@ same-length : tie.Need-same-length
 same-length c = search needs
 
 returns : tie.Need-returns
-returns c = ends-long (c .ended .ensures .0) (c .ended .ensures .1) (c .before .before .before .put-answer .ensures)
+returns c = ends-long (c .ended .ensures .0) (c .ended .ensures .1) (c .ended .ensures .2) (c .before .before .before .put-answer .ensures)
 
 pub too-long-spec : {M : Type 1} → statement M
 too-long-spec = tie.close (tie.spec put-answer-requires ended-requires same-length returns)

@@ -1,6 +1,7 @@
 -- `linked::first_no` meets its contract: questions 4 to 14, then question 15.
 use native.Mathlib.Omega.{arith}
 use mathlib.Core.Path.{_≡_, refl, sym}
+use Rattle.market.specs.declared.Access.the-variants.{Member}
 use Rattle.market.specs.declared.TimeInForce.the-variants.{FillOrKill}
 use Rattle.market.specs.View.{dayOf}
 use Rattle.market.specs.Questions.{entryQuestions, firstNo}
@@ -22,7 +23,7 @@ start c = c .before .before
 first : (c : tie.After-order-no) →
     let a = (start c) .args in
     c .order-no .result
-    ≡ firstNo (entryQuestions (dayOf (a .rules) (a .phase) (a .money .now) (a .pieces .now) (a .book)) (a .participant) (a .member) FillOrKill)
+    ≡ firstNo (entryQuestions (dayOf (a .rules) (a .phase) (a .money .now) (a .pieces .now) (a .book)) (a .participant) (a .member) Member FillOrKill)
 first c = c .order-no .ensures ((start c) .args .book) refl refl refl
 
 returns : tie.Need-returns
@@ -30,12 +31,12 @@ returns c =
     let n = c .before in
     let b = start n in
     let a = b .args in
-    sym (no-first (a .rules) (a .phase) (a .money .now) (a .pieces .now) (a .book) (b .pre) (a .participant) (a .member) FillOrKill
+    sym (no-first (a .rules) (a .phase) (a .money .now) (a .pieces .now) (a .book) (b .pre) (a .participant) (a .member) Member FillOrKill
     (n .order-no .result) (c .if1 .taken) (first n))
 
 none : (c : tie.Else1) →
     let a = (start (c .before)) .args in
-    firstNo (entryQuestions (dayOf (a .rules) (a .phase) (a .money .now) (a .pieces .now) (a .book)) (a .participant) (a .member) FillOrKill)
+    firstNo (entryQuestions (dayOf (a .rules) (a .phase) (a .money .now) (a .pieces .now) (a .book)) (a .participant) (a .member) Member FillOrKill)
     ≡ 0
 none c = omega (arith, c .if1 .left, first (c .before))
 
@@ -57,7 +58,7 @@ returns-2 c =
     let k = f .before .before in
     let b = start (k .before) in
     let a = b .args in
-    sym (no-whole (a .rules) (a .phase) (a .money .now) (a .pieces .now) (a .book) (b .pre) (a .participant) (a .member) FillOrKill
+    sym (no-whole (a .rules) (a .phase) (a .money .now) (a .pieces .now) (a .book) (b .pre) (a .participant) (a .member) Member FillOrKill
     (none k) (f .before .entry-of .ensures) (fails (f .is-fillable .ensures) (c .if2 .taken)))
 
 returns-3 : tie.Need-returns-3
@@ -66,7 +67,7 @@ returns-3 c =
     let k = f .before .before in
     let b = start (k .before) in
     let a = b .args in
-    sym (no-none (a .rules) (a .phase) (a .money .now) (a .pieces .now) (a .book) (b .pre) (a .participant) (a .member) FillOrKill
+    sym (no-none (a .rules) (a .phase) (a .money .now) (a .pieces .now) (a .book) (b .pre) (a .participant) (a .member) Member FillOrKill
     (none k) (f .before .entry-of .ensures) (holds (f .is-fillable .ensures) (c .if2 .left)))
 
 pub first-no-spec : {M : Type 1} → statement M

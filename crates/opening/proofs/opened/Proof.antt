@@ -6,7 +6,7 @@ use Rattle.opening.proofs.opened.Tie as tie
 
 returns : tie.Need-returns
 unfolding opened
-returns c = refl
+returns c = (refl, refl)
 
 pub opened-spec : {M : Type 1} → statement M
 opened-spec = tie.close (tie.spec returns)

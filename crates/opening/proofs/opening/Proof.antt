@@ -102,7 +102,7 @@ returns-5 c =
     opens-day _ _ (counts-hold (rows .before .before)) (rows-hold rows)
     (holds (nominals-tested (e3 .before)) (e3 .if3 .left)) (le-leb _ _ (e4 .if4 .left))
     (ap (λ (o : Outcome). o .answer) (c .accepted .ensures))
-    (ap (λ (o : Outcome). view (o .state)) (c .accepted .ensures) ∙ c .before .opened .ensures)
+    (ap (λ (o : Outcome). view (o .state)) (c .accepted .ensures) ∙ c .before .opened .ensures .0)
 
 pub opening-spec : {M : Type 1} → statement M
 opening-spec =

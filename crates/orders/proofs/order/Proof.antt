@@ -2,9 +2,11 @@
 -- enters.
 use Prim.Native.Nat.{_<_}
 use native.Mathlib.Omega.{arith}
-use mathlib.Core.Path.{_≡_, refl, sym, _∙_}
+use mathlib.Core.Path.{ap, _≡_, refl, sym, _∙_}
 use Rattle.market.specs.Limits.{maxSecurities}
 use Rattle.market.specs.View.{dayOf}
+use Rattle.market.specs.declared.Access.{Access}
+use Rattle.market.specs.Phases.{orderAccess}
 use Rattle.market.specs.Questions.{entryQuestions, firstNo}
 use Rattle.amounts.proofs.Answers.{fails, holds}
 use Rattle.orders.proofs.Calling.{appendable, enterable, few-lots, in-table, order-enters, order-waits, refuse-first}
@@ -24,15 +26,18 @@ returns c =
     (refuse-short (a .rules) (a .phase) (a .money .now) (a .pieces .now) (a .b) (b .pre) (a .participant) (a .ticket) (a .force)
     (a .trades .now) (c .before .if1 .taken))
 
+access-of-requires : tie.Need-access-of-requires
+access-of-requires c κs = search needs
+
 order-no-requires : tie.Need-order-no-requires
 order-no-requires c κs =
-    let b = c .before .before .before .before .before in
+    let b = c .before .before .before .before .before .before in
     let a = b .args in
     rules-known (a .rules) (a .phase) (a .money .now) (a .pieces .now) (a .b) (b .pre)
 
 -- question 2 is answered "yes"
 abbrev lent : tie.After-order-no → tie.Else1
-lent c = c .before .before .before .before
+lent c = c .before .before .before .before .before
 
 abbrev start : tie.After-order-no → tie.Start
 start c = (lent c) .before .before
@@ -41,8 +46,12 @@ start c = (lent c) .before .before
 first : (c : tie.After-order-no) →
     let a = (start c) .args in
     c .order-no .result
-    ≡ firstNo (entryQuestions (dayOf (a .rules) (a .phase) (a .money .now) (a .pieces .now) (a .b)) (a .participant) (a .ticket) (a .force))
-first c = c .order-no .ensures ((start c) .args .b) refl refl refl
+    ≡ firstNo (entryQuestions (dayOf (a .rules) (a .phase) (a .money .now) (a .pieces .now) (a .b)) (a .participant) (a .ticket) (orderAccess (a .force)) (a .force))
+first c =
+    let a = (start c) .args in
+    c .order-no .ensures (a .b) refl refl refl
+    ∙ ap (λ (z : Access). firstNo (entryQuestions (dayOf (a .rules) (a .phase) (a .money .now) (a .pieces .now) (a .b)) (a .participant) (a .ticket) z (a .force)))
+    (c .before .access-of .ensures)
 
 declined-requires-2 : tie.Need-declined-requires-2
 declined-requires-2 c κs = search needs
@@ -58,7 +67,7 @@ returns-2 c =
 
 none : (c : tie.Else2) →
     let a = (start (c .before)) .args in
-    firstNo (entryQuestions (dayOf (a .rules) (a .phase) (a .money .now) (a .pieces .now) (a .b)) (a .participant) (a .ticket) (a .force))
+    firstNo (entryQuestions (dayOf (a .rules) (a .phase) (a .money .now) (a .pieces .now) (a .b)) (a .participant) (a .ticket) (orderAccess (a .force)) (a .force))
     ≡ 0
 none c = omega (arith, c .if2 .left, first (c .before))
 
@@ -181,6 +190,7 @@ order-spec =
     (tie.spec
     declined-requires
     returns
+    access-of-requires
     order-no-requires
     declined-requires-2
     returns-2

@@ -17,7 +17,7 @@ returns : tie.Need-returns
 returns c =
     let e = c .before in
     let a = e .before .args in
-    no-early (a .rules) (a .phase) (a .codes) (a .participant) (a .ticket) (a .force) (a .t3) (a .count) (a .money .now)
+    no-early (a .rules) (a .phase) (a .codes) (a .participant) (a .ticket) (a .access) (a .force) (a .t3) (a .count) (a .money .now)
     (a .pieces .now) (e .early-no .result) (c .if1 .taken) (e .early-no .ensures)
 
 -- behind question 7
@@ -26,14 +26,14 @@ start c = c .before .before
 
 none : (c : tie.Else1) →
     let a = (start c) .args in
-    firstNo (earlyQuestions (a .rules .participants) (a .rules .securities) (a .phase) (a .participant) (a .ticket) (a .force)) ≡ 0
+    firstNo (earlyQuestions (a .rules .participants) (a .rules .securities) (a .phase) (a .participant) (a .ticket) (a .access)) ≡ 0
 none c = omega (arith, c .if1 .left, c .before .early-no .ensures)
 
 listed : (c : tie.Else1) → (start c) .args .ticket .security < maxSecurities
 listed c =
     let b = start c in
     let a = b .args in
-    in-rules (a .rules) (a .phase) (a .codes) (a .participant) (a .ticket) (a .force) (b .pre) (none c)
+    in-rules (a .rules) (a .phase) (a .codes) (a .participant) (a .ticket) (a .access) (a .force) (b .pre) (none c)
 
 mul-row : tie.Need-mul-row
 mul-row c = omega (arith, listed (c .before))
@@ -52,14 +52,14 @@ later-no-requires c κs =
     let k = c .before .before .before in
     let b = start k in
     let a = b .args in
-    askable (a .rules) (a .phase) (a .codes) (a .participant) (a .ticket) (a .force) (b .pre) (none k)
+    askable (a .rules) (a .phase) (a .codes) (a .participant) (a .ticket) (a .access) (a .force) (b .pre) (none k)
 
 returns-2 : tie.Need-returns-2
 returns-2 c =
     let k = c .before .before .before .before in
     let b = start k in
     let a = b .args in
-    no-later (a .rules) (a .phase) (a .codes) (a .participant) (a .ticket) (a .force) (b .pre) (none k) (a .t3) (a .count)
+    no-later (a .rules) (a .phase) (a .codes) (a .participant) (a .ticket) (a .access) (a .force) (b .pre) (none k) (a .t3) (a .count)
     (a .money .now) (a .pieces .now) (c .later-no .result) (c .later-no .ensures)
 
 pub order-no-spec : {M : Type 1} → statement M

@@ -1,7 +1,7 @@
 -- `reserves::moved` meets its contract: each move is its call's.
 use mathlib.Core.Path.{refl}
 use borrow.Author.Needs.{needs}
-use Rattle.market.specs.Day.{Money, Pieces}
+use Rattle.market.specs.declared.Asset.the-variants.{Money, Pieces}
 use Rattle.market.specs.Positions.{draw, receive}
 use Rattle.market.specs.Questions.{isFree, questions, totalFits}
 use Rattle.market.specs.Step.{effect}
