@@ -15,7 +15,7 @@ use Rattle.market.specs.declared.Rules.{Rules}
 use Rattle.market.specs.declared.Asset.{Asset}
 use Rattle.market.specs.declared.Asset.the-variants.{Money, Pieces}
 use Rattle.market.specs.Day.{Day, blockedAt, columnsOf, freeAt, noOrder, noTurnover, orderAt}
-use Rattle.market.specs.Day.{cell, positions, totalLimit}
+use Rattle.market.specs.Day.{cell, positions}
 use Rattle.market.specs.View.{view}
 use Rattle.market.specs.Needs.{needAt}
 use Rattle.market.specs.Sound.{needsAt}

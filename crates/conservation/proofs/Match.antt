@@ -24,7 +24,7 @@ use Rattle.market.proofs.Logic.{never}
 use Rattle.market.proofs.Needs.{value-added}
 use Rattle.market.proofs.Waiting.{Apart, Fresh, apart-drop, apart-last, fresh-takeOff, length-takeOff-le}
 use Rattle.market.proofs.Codes.{numbered-apart}
-use Rattle.market.proofs.Matching.{Chosen, Fit, Uncrossed, fit, uncrossed-takeOff}
+use Rattle.market.proofs.Matching.{Chosen, Fit, Uncrossed, uncrossed-takeOff}
 use Rattle.conservation.specs.Book.{Book, Waiting, enters, feedTrade, takeLots, tradeMoved}
 use Rattle.conservation.specs.Statement.{allShown, shown}
 use Rattle.conservation.proofs.Listed.{none-taken, takeLots-at, takeLots-last, takeLots-past}

@@ -7,7 +7,7 @@ use mathlib.Core.Bool.{Bool, true, false, cond}
 use lib.ListN.{drop, length, take, length-append, take-append-drop}
 use lib.Seq.{length-take-le}
 use borrow.Author.Tests.{eq-eqb, le-leb, leb-false, leb-true, ne-eqb}
-use Rattle.market.specs.Tests.{_=?_, _and_, _≤?_}
+use Rattle.market.specs.Tests.{_=?_, _≤?_}
 use Rattle.market.specs.Day.{Day}
 use Rattle.market.specs.View.{view}
 use Rattle.market.proofs.Logic.{both, never}

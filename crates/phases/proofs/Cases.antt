@@ -9,11 +9,10 @@ use lib.ListN.{drop, length, take}
 use borrow.Author.Tests.{eqb-false}
 use Rattle.market.specs.declared.Access.{Access}
 use Rattle.market.specs.declared.Access.the-variants.{ClosingOrder, EndCollecting, EndSession, FillOrKill}
-use Rattle.market.specs.declared.Access.the-variants.{ImmediateOrCancel, Kept, Member, StartClosing, StartCollecting}
+use Rattle.market.specs.declared.Access.the-variants.{Member, StartClosing, StartCollecting}
 use Rattle.market.specs.declared.Answer.the-variants.{Refused}
 use Rattle.market.specs.declared.Order.{Order}
 use Rattle.market.specs.declared.Phase.{Phase}
-use Rattle.market.specs.declared.Phase.the-variants.{Closed, Closing, Collecting, Open}
 use Rattle.market.specs.declared.Ticket.{Ticket}
 use Rattle.market.specs.declared.TimeInForce.{TimeInForce}
 use Rattle.market.specs.declared.TimeInForce.the-variants as force
@@ -35,46 +34,8 @@ use Rattle.market.proofs.Logic.{within-low}
 use Rattle.market.proofs.Questions.{AllYes, all-yes, hides, passes, proper}
 use Rattle.market.proofs.Entry.{taken-either}
 use Rattle.market.proofs.Fill.{fill-all}
-use Rattle.phases.specs.Cases.{AsBefore, AskedSix, InEveryPhase, MembersSix, NeverSix}
+use Rattle.phases.specs.Cases.{AskedSix, InEveryPhase, MembersSix, NeverSix}
 use Rattle.phases.specs.Cases.{SixExactly, earlier}
-
-pub as-before : AsBefore
-as-before Open Kept = refl
-as-before Open ImmediateOrCancel = refl
-as-before Open FillOrKill = refl
-as-before Open Member = refl
-as-before Open ClosingOrder = refl
-as-before Open StartCollecting = refl
-as-before Open EndCollecting = refl
-as-before Open StartClosing = refl
-as-before Open EndSession = refl
-as-before Collecting Kept = refl
-as-before Collecting ImmediateOrCancel = refl
-as-before Collecting FillOrKill = refl
-as-before Collecting Member = refl
-as-before Collecting ClosingOrder = refl
-as-before Collecting StartCollecting = refl
-as-before Collecting EndCollecting = refl
-as-before Collecting StartClosing = refl
-as-before Collecting EndSession = refl
-as-before Closing Kept = refl
-as-before Closing ImmediateOrCancel = refl
-as-before Closing FillOrKill = refl
-as-before Closing Member = refl
-as-before Closing ClosingOrder = refl
-as-before Closing StartCollecting = refl
-as-before Closing EndCollecting = refl
-as-before Closing StartClosing = refl
-as-before Closing EndSession = refl
-as-before Closed Kept = refl
-as-before Closed ImmediateOrCancel = refl
-as-before Closed FillOrKill = refl
-as-before Closed Member = refl
-as-before Closed ClosingOrder = refl
-as-before Closed StartCollecting = refl
-as-before Closed EndCollecting = refl
-as-before Closed StartClosing = refl
-as-before Closed EndSession = refl
 
 pub in-every-phase : (d : Day) (x : Phase) (lent : ℕ) → InEveryPhase d x lent
 unfolding questions totalFits isFree

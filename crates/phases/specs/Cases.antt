@@ -1,50 +1,25 @@
--- What question 6 decides, over all phases and calls, and the tests that it was before T-04.
+-- What question 6 decides, over all phases and calls.
 use Prim.Native.Nat.{ℕ}
 use mathlib.Core.Path.{_≡_}
 use mathlib.Core.List.{List, [], _∷_, _++_}
-use mathlib.Core.Bool.{Bool, true, false, cond}
+use mathlib.Core.Bool.{true, false, cond}
 use lib.ListN.{length}
 use Rattle.market.specs.declared.Access.{Access}
-use Rattle.market.specs.declared.Access.the-variants.{ClosingOrder, EndCollecting, EndSession, FillOrKill}
-use Rattle.market.specs.declared.Access.the-variants.{ImmediateOrCancel, Kept, Member, StartClosing, StartCollecting}
+use Rattle.market.specs.declared.Access.the-variants.{ClosingOrder, EndCollecting, EndSession}
+use Rattle.market.specs.declared.Access.the-variants.{Member, StartClosing, StartCollecting}
 use Rattle.market.specs.declared.Answer.{Answer}
 use Rattle.market.specs.declared.Answer.the-variants.{Refused}
 use Rattle.market.specs.declared.Phase.{Phase}
-use Rattle.market.specs.declared.Phase.the-variants.{Closed, Closing, Collecting, Open}
 use Rattle.market.specs.declared.Ticket.{Ticket}
 use Rattle.market.specs.Tests.{_=?_}
 use Rattle.market.specs.declared.Asset.{Asset}
 use Rattle.market.specs.Day.{Day, withPhase}
-use Rattle.market.specs.Sound.{isClosing, isCollecting, keptIn}
 use Rattle.market.specs.Answers.{numbersOf}
 use Rattle.market.specs.Calls.{Call, cancel, closingOrder, decrease, endCollecting, endSession, increase}
 use Rattle.market.specs.Calls.{linked, order, startClosing, startCollecting}
 use Rattle.market.specs.Phases.{admits, orderAccess}
 use Rattle.market.specs.Questions.{Question, firstNo, memberQuestions, questions}
 use Rattle.market.specs.Step.{allQuestions, step}
-
--- the phase is open
-abbrev pub isOpen : Phase → Bool
-isOpen Open = true
-isOpen Collecting = false
-isOpen Closing = false
-isOpen Closed = false
-
--- the test of the phase that question 6 was before, by name
-abbrev pub testBefore : Access → Phase → Bool
-testBefore Kept = keptIn
-testBefore ImmediateOrCancel = isOpen
-testBefore FillOrKill = isOpen
-testBefore Member = isOpen
-testBefore ClosingOrder = isClosing
-testBefore StartCollecting = isOpen
-testBefore EndCollecting = isCollecting
-testBefore StartClosing = isOpen
-testBefore EndSession = isClosing
-
--- "All outcomes are those of before"
-abbrev pub AsBefore : Type 0
-AsBefore = (x : Phase) (a : Access) → admits x a ≡ testBefore a x
 
 -- the questions in front of question 6
 abbrev pub earlier : List Question → List Question
