@@ -63,7 +63,7 @@ returns-2 c =
     let a = b .args in
     rw (c .declined2 .ensures)
     (refuse-first (a .rules) (a .phase) (a .money .now) (a .pieces .now) (a .b) (b .pre) (a .participant) (a .ticket) (a .force)
-    (a .trades .now) ((lent n) .if1 .left) (n .order-no .result) (c .before .if2 .taken) (first n))
+    (a .trades .now) ((lent n) .if1 .left) (n .order-no .result) (omega (arith, c .before .if2 .taken)) (first n))
 
 none : (c : tie.Else2) →
     let a = (start (c .before)) .args in
