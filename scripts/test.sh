@@ -20,7 +20,7 @@ proofs() {
 }
 
 part "format of the source" rt fmt --check
-part "names in docs/TRACE.md" python3 tests/trace.py
+part "docs/TRACE.md against the sources" python3 tests/trace.py
 part "proofs, must-fail edits and stored outputs" proofs
 part "the model's own tests" make --no-print-directory model
 part "library and model on generated days" make --no-print-directory compare
