@@ -15,6 +15,7 @@ use Rattle.market.specs.Limits.{maxWaiting}
 use Rattle.market.specs.declared.Rules.{Rules}
 use Rattle.market.specs.Day.{Day, orderAt, row, withLots}
 use Rattle.market.specs.Codes.{codesOf, given}
+use Rattle.market.specs.Needs.{valueFor}
 use Rattle.market.specs.Positions.{counted, settle}
 use Rattle.market.specs.Waiting.{takeOff}
 use Rattle.market.specs.TradeList.{Trade, tradeOf}
@@ -25,7 +26,7 @@ use Rattle.market.proofs.Needs.{value-added}
 use Rattle.market.proofs.Waiting.{Apart, Fresh, apart-drop, apart-last, fresh-takeOff, length-takeOff-le}
 use Rattle.market.proofs.Codes.{numbered-apart}
 use Rattle.market.proofs.Matching.{Chosen, Fit, Uncrossed, uncrossed-takeOff}
-use Rattle.conservation.specs.Book.{Book, Waiting, enters, feedTrade, takeLots, tradeMoved}
+use Rattle.conservation.specs.Book.{Book, Waiting, addedTo, enters, feedTrade, takeLots, tradeMoved}
 use Rattle.conservation.specs.Statement.{allShown, shown}
 use Rattle.conservation.proofs.Listed.{none-taken, takeLots-at, takeLots-last, takeLots-past}
 use Rattle.invariant.specs.Standing.{InFlight}
@@ -127,18 +128,16 @@ module _ {U : Type 0} {r : Rules} (k : TimeInForce) (b : Book) (d : Day) (e : Or
       ∙ ap (takeLots (e .participant) (e .code) n) (takeLots-at n (d .waiting) (waits k e) i apart (chosen .0))
       ∙ takes-entry k n left e (fresh-takeOff (e .participant) (e .code) (d .waiting) i n fresh) some
 
+  -- what the trade adds to the book's T, it adds to the day's
+  added : addedTo (row (d .rules) ((buyOf e o) .security)) (trade (e .side))
+      ≡ valueFor (row (d .rules) ((buyOf e o) .security)) p n
+  added = value-added (row (d .rules) ((buyOf e o) .security)) p n
+
   -- while open the book counts the trade as the day does
   counts : tradeMoved r b (counted (d .rules) (d .turnover) ((buyOf e o) .security) p n) (trade (e .side))
       ≡ feedTrade r b (trade (e .side))
   unfolding feedTrade counted
-  counts =
-      rw (
-        m .agree .rules,
-        m .agree .phase,
-        m .agree .turnover,
-        m .flight .phase,
-        value-added (row (d .rules) ((buyOf e o) .security)) p n,
-      )
+  counts = rw (m .agree .rules, m .agree .phase, m .agree .turnover, m .flight .phase, added)
 
   pub next-trade : Matching U k r (feedTrade r b (trade (e .side))) (traded d (buyOf e o) (sellOf e o) i p n) rest
   unfolding traded settle counted
