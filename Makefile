@@ -51,9 +51,10 @@ scripts: replay_program library script_library
 	@$(MODEL) scripts 1 3000
 	@$(MODEL) replay target/bin/replay 1 100
 
-bench: library script_library
+# Bytes copied, then times beside the model's.
+bench: library script_library copies
 	@$(MODEL) bench
 
-# Bytes that the program copies per command, by kind.
-copies: beamgantry
-	@tests/copies/count.sh target/bin/beamgantry
+# Bytes that a command copies, by kind, in the program of day files and in that of scripts.
+copies: beamgantry replay_program
+	@tests/copies/count.sh target/bin/beamgantry target/bin/replay

@@ -23,7 +23,7 @@ use Rattle.market.specs.TradeList.{lotsOf, tradeOf}
 use Rattle.market.specs.Matching.{Best, found, none}
 use Rattle.market.specs.Pairing.{Paired, Terms, counterparty, firstBuy, firstSell, pairedOff, pairs}
 use Rattle.market.specs.Pairing.{takeBoth}
-use Rattle.market.proofs.Lists.{All, all-at, all-map, sum-remove}
+use Rattle.market.proofs.Lists.{all-at, sum-remove}
 use Rattle.market.specs.Parts.{listing}
 use Rattle.market.proofs.Needs.{pieces-small, value-small}
 use Rattle.market.proofs.Known.{OrderOk, listing-ok}
@@ -39,7 +39,6 @@ use Rattle.matching.specs.Written.{tradeWritten}
 use Rattle.matching.proofs.Ready.{settled, settles}
 use Rattle.matching.proofs.Writing.{written-length, written-next, writtenFrom}
 use Rattle.pairing.specs.Pairing.{Counts, Meets, PairedAs}
-use Rattle.pairing.proofs.Keeping.{Positive}
 
 -- the parts at the start: rules, phase, listing, security, terms, money, pieces, order book, lent list
 pub record Start : Type 0 where
@@ -90,13 +89,6 @@ going-starts g f c = record {
   list = refl;
 }
 
--- two books that differ in their orders, their count and their trades alone
-pub record Same (b b′ : OrderBook) : Type 0 where
-  pub codes : b′ .codes ≡ b .codes
-  pub turnover : b′ .turnover ≡ b .turnover
-  pub filled : b′ .filled ≡ b .filled
-  pub left : b′ .left ≡ b .left
-
 module _ {g : Start} {m k v : List ℕ} {b : OrderBook} {made : ℕ} (h : Going g m k v b made) where
   abbrev d : Day
   d = dayOf (g .r) (g .x) m k b
@@ -109,9 +101,6 @@ module _ {g : Start} {m k v : List ℕ} {b : OrderBook} {made : ℕ} (h : Going 
 
   pub going-security : g .s < maxSecurities
   going-security = omega (arith, h .meets .known, h .meets .standing .backed .rulesOk .securities)
-
-  pub going-positive : All Positive (waitingIn b)
-  going-positive = all-map (OrderOk (g .r)) Positive (waitingIn b) (λ o ok. ok .lots) (h .meets .standing .orders)
 
   pub going-counts : (b′ : OrderBook) → b′ .filled ≡ b .filled → b′ .trades ≡ made → b′ .count ≡ b .count → Counts b′ v
   going-counts b′ ef et ec = record {

@@ -1,3 +1,4 @@
-pub mod Leaving
-pub mod Keeping
+pub mod Closing
 pub mod Going
+pub mod Leaving
+pub mod Taking

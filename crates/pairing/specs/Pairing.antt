@@ -2,26 +2,30 @@
 use Prim.Native.Nat.{ℕ, _+_, _*_, _≤_, _<_}
 use mathlib.Core.Path.{_≡_}
 use mathlib.Core.List.{List}
-use mathlib.Core.Bool.{cond}
+use mathlib.Core.Bool.{Bool, true, false}
 use lib.ListN.{length}
-use Rattle.market.specs.declared.Order.{Order}
+use Rattle.market.specs.declared.Kind.{Kind}
+use Rattle.market.specs.declared.Kind.the-variants as kind
 use Rattle.market.specs.declared.OrderBook.{OrderBook}
 use Rattle.market.specs.declared.Phase.{Phase}
 use Rattle.market.specs.declared.Listing.{Listing}
 use Rattle.market.specs.Limits.{maxLots, maxWaiting, numbersPerTrade}
-use Rattle.market.specs.Tests.{_<?_}
 use Rattle.market.specs.declared.Rules.{Rules}
 use Rattle.market.specs.View.{dayOf}
 use Rattle.market.specs.TradeList.{lotsOf}
+use Rattle.market.specs.Matching.{Best, found, none}
 use Rattle.market.specs.Pairing.{Paired, Terms, pairs}
 use Rattle.market.specs.Parts.{listing}
 use Rattle.invariant.specs.Standing.{Standing}
 use Rattle.invariant.proofs.Pairing.{Fair}
 use Rattle.matching.proofs.Writing.{writtenFrom}
 
--- how many places an order keeps: none where its lots are used up
-abbrev pub slots : Order → ℕ
-slots o = cond (0 <? o .lots) 1 0
+-- a buy and a sell are found for good: of closing orders, which have no price, the first found is the best
+abbrev pub decided : Kind → Best → Best → Bool
+decided (kind.Kept p) x y = false
+decided kind.Closing none y = false
+decided kind.Closing (found i p) none = false
+decided kind.Closing (found i p) (found j q) = true
 
 -- under rules r, in phase x, l is the listing of security s, the day is sound, and the terms t are fair to its buys
 pub record Meets (r : Rules) (x : Phase) (l : Listing) (s : ℕ) (t : Terms) (b : OrderBook) (m k : List ℕ) : Type 0 where

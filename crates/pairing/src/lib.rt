@@ -13,9 +13,11 @@ use matching::preferred;
 use matching::with_lots;
 use waiting::free_need;
 ghost use mathlib.Core.Path.{_≡_};
+ghost use Prim.Native.Nat.{max, min};
 ghost use Rattle.market.specs.Pairing.{counterparty as standsFor};
+ghost use Rattle.matching.specs.Search.{bestOf};
 ghost use Rattle.pairing.specs.Leaving.{AllLeft, Leavable};
-ghost use Rattle.pairing.specs.Pairing.{Pairable, Pairs, slots};
+ghost use Rattle.pairing.specs.Pairing.{Pairable, Pairs, decided as areDecided};
 
 // The needs of all waiting orders are freed. The caller's book has no orders then: `book.count = 0`.
 pub fn free_all(book: OrderBook, rules: Rules, money: &mut [u64; 544], pieces: &mut [u64; 544])
@@ -52,11 +54,33 @@ fn counterparty(side: Side, security: u64, limit: Kind) -> Order
     }
 }
 
-// How many places an order keeps: none where its lots are used up.
-fn slots_of(o: Order) -> usize
-    ensures { λ r. ⌜ r ≡ slots o ⌝ }
+// Are both orders found for good? Of closing orders, which have no price, the first found is the best.
+fn decided(limit: Kind, buys: Found, sells: Found) -> bool
+    ensures { λ r. ⌜ r ≡ areDecided limit (bestOf buys) (bestOf sells) ⌝ }
 {
-    if 0 < o.lots { 1 } else { 0 }
+    match limit {
+        Kind::Kept(_) => false,
+        Kind::Closing => match buys {
+            Found::Nothing => false,
+            Found::At(_, _) => match sells {
+                Found::Nothing => false,
+                Found::At(_, _) => true,
+            },
+        },
+    }
+}
+
+// Of two places, the earlier and the later one.
+fn earlier_of(at: usize, to: usize) -> usize
+    ensures { λ r. ⌜ r ≡ min at to ⌝ }
+{
+    if at < to { at } else { to }
+}
+
+fn later_of(at: usize, to: usize) -> usize
+    ensures { λ r. ⌜ r ≡ max at to ⌝ }
+{
+    if at < to { to } else { at }
 }
 
 // The first buy with the first sell of a security, until one side is used up. `limit` and `price` are the terms: which
@@ -89,6 +113,9 @@ pub fn pair_all(
             let o = book.orders[i];
             buys = preferred(seller, buys, o, i);
             sells = preferred(buyer, sells, o, i);
+            if decided(limit, buys, sells) {
+                break 'search;
+            }
             i += 1;
         }
         let Found::At(at, _) = buys else {
@@ -112,18 +139,29 @@ pub fn pair_all(
             price,
             lots,
         );
-        book.orders[at] = with_lots(buy, buy.lots - lots);
-        book.orders[to] = with_lots(sell, sell.lots - lots);
-        // A filled order gives its place up. In a function of its own this would copy the book.
-        let mut k: usize = 0;
-        let mut kept: usize = 0;
-        'keep: while k < count {
-            let o = book.orders[k];
-            book.orders[kept] = o;
-            kept += slots_of(o);
-            k += 1;
+        // The lots come off both, off the later one first, so that the other keeps its place till then. A filled order
+        // gives its place up. In a function of its own this would copy the book.
+        let earlier = earlier_of(at, to);
+        let mut place = later_of(at, to);
+        'off: loop {
+            let o = book.orders[place];
+            if o.lots <= lots {
+                let last = book.count - 1;
+                let mut j = place;
+                'shift: while j < last {
+                    let later = book.orders[j + 1];
+                    book.orders[j] = later;
+                    j += 1;
+                }
+                book.count = last;
+            } else {
+                book.orders[place] = with_lots(o, o.lots - lots);
+            }
+            if place == earlier {
+                break 'off;
+            }
+            place = earlier;
         }
-        book.count = kept;
         book.filled = book.filled + lots;
         made += 1;
     }

@@ -1,4 +1,5 @@
 pub mod Buffer
 pub mod Decimals
+pub mod Digits
 pub mod Lines
 pub mod Runs

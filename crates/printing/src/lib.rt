@@ -34,17 +34,48 @@ fn put_byte(out: &mut [u8], at: usize, byte: u8) -> usize
     at + 1
 }
 
-// The digits of the number's tenth, then its last digit.
+// How many digits a number has.
+fn width(n: u64) -> usize
+    ensures { λ r. ⌜ r ≡ length (decimal n) ⌝ }
+{
+    let mut digits: usize = 1;
+    let mut power: u64 = 10;
+    while power <= n {
+        digits += 1;
+        // The next power has more than 64 bits.
+        if 19 < digits {
+            return digits;
+        }
+        power = power * 10;
+    }
+    digits
+}
+
+// The digits, the last one first.
+fn put_digits(out: &mut [u8], at: usize, n: u64) -> usize
+    requires { ⌜ at + 20 ≤ length (now out) ⌝ }
+    ensures { λ r. ⌜ Puts (now (out .entry)) at (decimal n) (now (out .exit)) r ⌝ }
+{
+    let end = at + width(n);
+    let mut rest = n;
+    let mut i = end;
+    while at < i {
+        i -= 1;
+        out[i] = b'0' + (rest % 10) as u8;
+        rest = rest / 10;
+    }
+    end
+}
+
+// Most numbers have one digit: they need no loop.
 fn put_number(out: &mut [u8], at: usize, n: u64) -> usize
     requires { ⌜ at + 20 ≤ length (now out) ⌝ }
     ensures { λ r. ⌜ Puts (now (out .entry)) at (decimal n) (now (out .exit)) r ⌝ }
 {
-    let last = b'0' + (n % 10) as u8;
     if n < 10 {
-        return put_byte(out, at, last);
+        return put_byte(out, at, b'0' + n as u8);
     }
-    let end = put_number(out, at, n / 10);
-    put_byte(out, end, last)
+    put_digits(out, at, n)
 }
 
 // Bytes as they are.

@@ -1,12 +1,11 @@
 -- `pairing::pair_all` meets its contract: both searches keep the best of the orders passed, and each turn leaves what the
 -- definition's pairing comes to as it was, under all rules that have the security's listing.
 use Prim.Native.Nat.{ℕ, _+_, _-_, _≤_, _<_, min}
-use native.Mathlib.Nat.{min-le-left, min-le-right}
 use native.Mathlib.Omega.{arith}
-use mathlib.Core.Path.{_∙_, _≡_, ap, refl, sym}
-use lib.ListN.{length, length-set, set}
+use mathlib.Core.Path.{_∙_, _≡_, ap, refl, sym, subst}
+use mathlib.Core.Logic.{⊎-elim}
+use lib.ListN.{length}
 use borrow.Author.Needs.{needs}
-use Rattle.market.specs.declared.Kind.{Kind}
 use Rattle.market.specs.declared.Order.{Order}
 use Rattle.market.specs.declared.OrderBook.{OrderBook}
 use Rattle.market.specs.declared.Phase.{Phase}
@@ -20,35 +19,48 @@ use Rattle.market.proofs.Sized.{sized-book}
 use Rattle.matching.specs.Orders.{waitingIn}
 use Rattle.matching.specs.Search.{bestOf}
 use Rattle.matching.proofs.First.{first-at}
+use Rattle.matching.proofs.Removal.{Moved, moved-next, moved-starts}
 use Rattle.matching.proofs.Search.{Searched, search-ends, search-starts, search-step}
 use Rattle.pairing.specs.Pairing.{Counts, Meets}
-use Rattle.pairing.proofs.Keeping.{Keeping, keeping-both, keeping-next, keeping-starts}
-use Rattle.pairing.proofs.Going.{Going, Same, going-apart, going-buy, going-counts, going-less, going-lots, going-next}
-use Rattle.pairing.proofs.Going.{going-no-buy, going-no-sell, going-positive, going-ready, going-room, going-security}
+use Rattle.pairing.proofs.Closing.{both-decided}
+use Rattle.pairing.proofs.Going.{Going, going-apart, going-buy, going-counts, going-less, going-lots, going-next}
+use Rattle.pairing.proofs.Going.{going-no-buy, going-no-sell, going-ready, going-room, going-security}
 use Rattle.pairing.proofs.Going.{going-sell, going-starts}
 use Rattle.pairing.proofs.Going as going
+use Rattle.pairing.proofs.Taking.{Same, Taken, Taking, taken-filled, taken-less, taken-long, taken-same, taking-ends}
+use Rattle.pairing.proofs.Taking.{taking-next, taking-starts}
 use Rattle.pairing.proofs.pair_all.Statement.{statement}
 use Rattle.pairing.proofs.pair_all.Tie as tie
 
 abbrev Inv-search : tie.InvT-search
-Inv-search security price listing money pieces trades book turnover seller buyer made count buys₀ sells₀ i₀ buys sells i =
+Inv-search security limit price listing money pieces trades book turnover seller buyer made count buys₀ sells₀ i₀ buys sells i =
     Searched seller (book .orders) count i buys × Searched buyer (book .orders) count i sells
 
 abbrev μ-search : tie.MeasureT-search
-μ-search security price listing money pieces trades book turnover seller buyer made count buys₀ sells₀ i₀ buys sells i = count - i
+μ-search security limit price listing money pieces trades book turnover seller buyer made count buys₀ sells₀ i₀ buys sells i =
+    count - i
 
-abbrev Inv-keep : tie.InvT-keep
-Inv-keep security price listing money pieces trades book₀ turnover seller buyer made count i at to lots k₀ kept₀ book k kept =
-    Same book₀ book × Keeping (book₀ .orders) (book .orders) count k kept
+abbrev Inv-shift : tie.InvT-shift
+Inv-shift security limit price listing money pieces trades book₀ turnover seller buyer made count i at to lots earlier place last j₀ book j =
+    Same book₀ book × Moved (book₀ .orders) (book .orders) place last j
 
-abbrev μ-keep : tie.MeasureT-keep
-μ-keep security price listing money pieces trades book₀ turnover seller buyer made count i at to lots k₀ kept₀ book k kept = count - k
+abbrev μ-shift : tie.MeasureT-shift
+μ-shift security limit price listing money pieces trades book₀ turnover seller buyer made count i at to lots earlier place last j₀ book j =
+    last - j
+
+abbrev Inv-off : tie.InvT-off
+Inv-off security limit price listing money pieces trades book₀ turnover seller buyer made count i at to lots earlier place₀ book place =
+    Taking book₀ book at to lots earlier place
+
+-- the place comes nearer to the first one
+abbrev μ-off : tie.MeasureT-off
+μ-off security limit price listing money pieces trades book₀ turnover seller buyer made count i at to lots earlier place₀ book place =
+    place
 
 abbrev Inv-pairs : tie.InvT-pairs
-Inv-pairs security price listing money₀ pieces₀ trades₀ book₀ turnover seller buyer made₀ money pieces trades book made =
+Inv-pairs security limit price listing money₀ pieces₀ trades₀ book₀ turnover seller buyer made₀ money pieces trades book made =
     (length (book .orders) ≡ maxWaiting)
-    × ((limit : Kind) → seller ≡ counterparty Sell security limit → buyer ≡ counterparty Buy security limit
-    → (r : Rules) (x : Phase)
+    × ((r : Rules) (x : Phase)
     → Meets r x listing security (record { limit = limit; price = price }) book₀ money₀ pieces₀ → Counts book₀ trades₀
     → Going (record {
       r = r;
@@ -63,16 +75,17 @@ Inv-pairs security price listing money₀ pieces₀ trades₀ book₀ turnover s
     }) money pieces trades book made)
 
 abbrev μ-pairs : tie.MeasureT-pairs
-μ-pairs security price listing money₀ pieces₀ trades₀ book₀ turnover seller buyer made₀ money pieces trades book made = book .count
+μ-pairs security limit price listing money₀ pieces₀ trades₀ book₀ turnover seller buyer made₀ money pieces trades book made =
+    book .count
 
 -- a turn of the pairing under the rules that the caller vouches for
 abbrev Turn : Type 0
-Turn = tie.At-pairs Inv-search μ-search Inv-keep μ-keep Inv-pairs μ-pairs
+Turn = tie.At-pairs Inv-search μ-search Inv-shift μ-shift Inv-off μ-off Inv-pairs μ-pairs
 
-abbrev start : Turn → tie.Start Inv-search μ-search Inv-keep μ-keep Inv-pairs μ-pairs
+abbrev start : Turn → tie.Start Inv-search μ-search Inv-shift μ-shift Inv-off μ-off Inv-pairs μ-pairs
 start c = c .before .before .before .before .before
 
-abbrev origin : (b : tie.Start Inv-search μ-search Inv-keep μ-keep Inv-pairs μ-pairs) → going.Start
+abbrev origin : (b : tie.Start Inv-search μ-search Inv-shift μ-shift Inv-off μ-off Inv-pairs μ-pairs) → going.Start
 origin b =
     let a = b .args in
     record {
@@ -87,104 +100,142 @@ origin b =
       v = a .trades .now;
     }
 
-begins : (b : tie.Start Inv-search μ-search Inv-keep μ-keep Inv-pairs μ-pairs) → Going (origin b) (b .args .money .now) (b .args .pieces .now) (b .args .trades .now) (b .args .b) (b .args .b .trades)
+begins : (b : tie.Start Inv-search μ-search Inv-shift μ-shift Inv-off μ-off Inv-pairs μ-pairs) → Going (origin b) (b .args .money .now) (b .args .pieces .now) (b .args .trades .now) (b .args .b) (b .args .b .trades)
 begins b = going-starts (origin b) (b .pre .meets) (b .pre .counts)
 
 goes : (c : Turn) → Going (origin (start c)) (c .pairs .money) (c .pairs .pieces) (c .pairs .trades) (c .pairs .book) (c .pairs .made)
 goes c =
     let b = start c in
-    c .pairs .inv .1 (b .args .limit) (c .before .before .counterparty .ensures) (c .before .counterparty2 .ensures) (b .pre .rules) (b .pre .phase) (b .pre .meets) (b .pre .counts)
+    c .pairs .inv .1 (b .pre .rules) (b .pre .phase) (b .pre .meets) (b .pre .counts)
 
-mul-turnover : tie.Need-mul-turnover Inv-search μ-search Inv-keep μ-keep Inv-pairs μ-pairs
+-- its orders are within the array
+roomy : (c : Turn) → c .pairs .book .count ≤ length (c .pairs .book .orders)
+roomy c = omega (arith, going-room (goes c), c .pairs .inv .0)
+
+mul-turnover : tie.Need-mul-turnover Inv-search μ-search Inv-shift μ-shift Inv-off μ-off Inv-pairs μ-pairs
 mul-turnover c = omega (arith, going-security (begins (c .before)))
 
-element-copy-out-turnover : tie.Need-element-copy-out-turnover Inv-search μ-search Inv-keep μ-keep Inv-pairs μ-pairs
+element-copy-out-turnover : tie.Need-element-copy-out-turnover Inv-search μ-search Inv-shift μ-shift Inv-off μ-off Inv-pairs μ-pairs
 element-copy-out-turnover c = going-security (begins (c .before))
 
-counterparty-requires : tie.Need-counterparty-requires Inv-search μ-search Inv-keep μ-keep Inv-pairs μ-pairs
+counterparty-requires : tie.Need-counterparty-requires Inv-search μ-search Inv-shift μ-shift Inv-off μ-off Inv-pairs μ-pairs
 counterparty-requires c κs = tt
 
-counterparty-requires-2 : tie.Need-counterparty-requires-2 Inv-search μ-search Inv-keep μ-keep Inv-pairs μ-pairs
+counterparty-requires-2 : tie.Need-counterparty-requires-2 Inv-search μ-search Inv-shift μ-shift Inv-off μ-off Inv-pairs μ-pairs
 counterparty-requires-2 c κs = tt
 
-pairs-holds : tie.Need-pairs-holds Inv-search μ-search Inv-keep μ-keep Inv-pairs μ-pairs
+pairs-holds : tie.Need-pairs-holds Inv-search μ-search Inv-shift μ-shift Inv-off μ-off Inv-pairs μ-pairs
 pairs-holds c =
     let b = c .before .before .before .before in
-    ((sized-book (b .args .b) (b .good .0)) .orders, λ limit es eb r x f n. going-starts _ f n)
+    ((sized-book (b .args .b) (b .good .0)) .orders, λ r x f n. going-starts _ f n)
 
-search-holds : tie.Need-search-holds Inv-search μ-search Inv-keep μ-keep Inv-pairs μ-pairs
+search-holds : tie.Need-search-holds Inv-search μ-search Inv-shift μ-shift Inv-off μ-off Inv-pairs μ-pairs
 search-holds c = (search-starts _ _ _, search-starts _ _ _)
 
-within : (c : tie.In-search Inv-search μ-search Inv-keep μ-keep Inv-pairs μ-pairs) → c .before .search .i < maxWaiting
+within : (c : tie.In-search Inv-search μ-search Inv-shift μ-shift Inv-off μ-off Inv-pairs μ-pairs) → c .before .search .i < maxWaiting
 within c = omega (arith, c .search-test .taken, going-room (goes (c .before .before)))
 
-mul-o : tie.Need-mul-o Inv-search μ-search Inv-keep μ-keep Inv-pairs μ-pairs
+mul-o : tie.Need-mul-o Inv-search μ-search Inv-shift μ-shift Inv-off μ-off Inv-pairs μ-pairs
 mul-o c = omega (arith, within c)
 
-element-copy-out-o : tie.Need-element-copy-out-o Inv-search μ-search Inv-keep μ-keep Inv-pairs μ-pairs
+element-copy-out-o : tie.Need-element-copy-out-o Inv-search μ-search Inv-shift μ-shift Inv-off μ-off Inv-pairs μ-pairs
 element-copy-out-o c = within c
 
-preferred-requires : tie.Need-preferred-requires Inv-search μ-search Inv-keep μ-keep Inv-pairs μ-pairs
+preferred-requires : tie.Need-preferred-requires Inv-search μ-search Inv-shift μ-shift Inv-off μ-off Inv-pairs μ-pairs
 preferred-requires c κs = tt
 
-preferred-requires-2 : tie.Need-preferred-requires-2 Inv-search μ-search Inv-keep μ-keep Inv-pairs μ-pairs
+preferred-requires-2 : tie.Need-preferred-requires-2 Inv-search μ-search Inv-shift μ-shift Inv-off μ-off Inv-pairs μ-pairs
 preferred-requires-2 c κs = tt
 
-add-i : tie.Need-add-i Inv-search μ-search Inv-keep μ-keep Inv-pairs μ-pairs
-add-i c = omega (arith, within (c .before .before .before))
+decided-requires : tie.Need-decided-requires Inv-search μ-search Inv-shift μ-shift Inv-off μ-off Inv-pairs μ-pairs
+decided-requires c κs = tt
 
-search-less : tie.Need-search-less Inv-search μ-search Inv-keep μ-keep Inv-pairs μ-pairs
-search-less c = omega (arith, c .before .before .before .search-test .taken)
-
-search-again : tie.Need-search-again Inv-search μ-search Inv-keep μ-keep Inv-pairs μ-pairs
-search-again c =
+-- one more order passed
+passed : (c : tie.After-preferred2 Inv-search μ-search Inv-shift μ-shift Inv-off μ-off Inv-pairs μ-pairs) →
+    let s = c .before .before .before .before in
+    let t = s .before in
+    let b = t .pairs .book in
+    Searched (t .before .before .counterparty .result) (b .orders) (b .count) (s .search .i + 1) (c .before .preferred .result)
+    × Searched (t .before .counterparty2 .result) (b .orders) (b .count) (s .search .i + 1) (c .preferred2 .result)
+passed c =
     let t = c .before .before .before in
     let l = t .before .search in (
       search-step (l .inv .0) (t .search-test .taken) (c .before .preferred .ensures),
       search-step (l .inv .1) (t .search-test .taken) (c .preferred2 .ensures),
     )
 
-enum-known-buys : tie.Need-enum-known-buys Inv-search μ-search Inv-keep μ-keep Inv-pairs μ-pairs
+add-i : tie.Need-add-i Inv-search μ-search Inv-shift μ-shift Inv-off μ-off Inv-pairs μ-pairs
+add-i c = omega (arith, within (c .before .before .before .before .before))
+
+search-less : tie.Need-search-less Inv-search μ-search Inv-shift μ-shift Inv-off μ-off Inv-pairs μ-pairs
+search-less c = omega (arith, c .before .before .before .before .before .search-test .taken)
+
+search-again : tie.Need-search-again Inv-search μ-search Inv-shift μ-shift Inv-off μ-off Inv-pairs μ-pairs
+search-again c = passed (c .before .before)
+
+enum-known-buys : tie.Need-enum-known-buys Inv-search μ-search Inv-shift μ-shift Inv-off μ-off Inv-pairs μ-pairs
 enum-known-buys c = search needs
 
-enum-told : tie.Need-enum-told Inv-search μ-search Inv-keep μ-keep Inv-pairs μ-pairs
+enum-told : tie.Need-enum-told Inv-search μ-search Inv-shift μ-shift Inv-off μ-off Inv-pairs μ-pairs
 enum-told c = search needs
 
-enum-known-sells : tie.Need-enum-known-sells Inv-search μ-search Inv-keep μ-keep Inv-pairs μ-pairs
+enum-known-sells : tie.Need-enum-known-sells Inv-search μ-search Inv-shift μ-shift Inv-off μ-off Inv-pairs μ-pairs
 enum-known-sells c = search needs
 
-enum-told-2 : tie.Need-enum-told-2 Inv-search μ-search Inv-keep μ-keep Inv-pairs μ-pairs
+enum-told-2 : tie.Need-enum-told-2 Inv-search μ-search Inv-shift μ-shift Inv-off μ-off Inv-pairs μ-pairs
 enum-told-2 c = search needs
 
--- what the searches come to, under the limit that the counterparties have
-buys-by : (c : tie.After-search Inv-search μ-search Inv-keep μ-keep Inv-pairs μ-pairs) →
+-- what the searches come to
+finds : (c : tie.Left-search Inv-search μ-search Inv-shift μ-shift Inv-off μ-off Inv-pairs μ-pairs) →
     let t = c .before .before in
-    let a = (start t) .args in
-    (limit : Kind) → t .before .before .counterparty .result ≡ counterparty Sell (a .security) limit
-    → best (counterparty Sell (a .security) limit) (waitingIn (t .pairs .book)) ≡ bestOf (c .before .search .buys)
-buys-by c limit e =
+    let w = waitingIn (t .pairs .book) in
+    (best (t .before .before .counterparty .result) w ≡ bestOf (c .search-test .buys))
+    × (best (t .before .counterparty2 .result) w ≡ bestOf (c .search-test .sells))
+finds c =
     let t = c .before .before in
-    ap (λ (o : Order). best o (waitingIn (t .pairs .book))) (sym e)
-    ∙ search-ends (c .before .search .inv .0) (c .search-test .left)
+    let l = c .before .search in
+    ⊎-elim
+    (λ w.
+    (search-ends (l .inv .0) (w .0 .left) ∙ sym (ap bestOf (w .1)), search-ends (l .inv .1) (w .0 .left) ∙ sym (ap bestOf (w .2))))
+    (λ w.
+    let k = passed (record {
+      before = record {
+        before = record { before = record { before = c .before; search-test = w .0 }; o = w .1 };
+        preferred = w .2;
+      };
+      preferred2 = w .3;
+    }) in
+    let f = both-decided (t .before .before .counterparty .result) (t .before .counterparty2 .result)
+    (ap (λ (o : Order). o .kind) (t .before .before .counterparty .ensures))
+    (ap (λ (o : Order). o .kind) (t .before .counterparty2 .ensures)) (k .0) (k .1) (roomy t)
+    (sym (w .4 .ensures) ∙ w .5 .taken) in
+    (f .0 ∙ sym (ap bestOf (w .6)), f .1 ∙ sym (ap bestOf (w .7))))
+    (c .search-test .came)
 
-sells-by : (c : tie.After-search Inv-search μ-search Inv-keep μ-keep Inv-pairs μ-pairs) →
+buys-by : (c : tie.Left-search Inv-search μ-search Inv-shift μ-shift Inv-off μ-off Inv-pairs μ-pairs) →
     let t = c .before .before in
     let a = (start t) .args in
-    (limit : Kind) → t .before .counterparty2 .result ≡ counterparty Buy (a .security) limit
-    → best (counterparty Buy (a .security) limit) (waitingIn (t .pairs .book)) ≡ bestOf (c .before .search .sells)
-sells-by c limit e =
+    best (counterparty Sell (a .security) (a .limit)) (waitingIn (t .pairs .book)) ≡ bestOf (c .search-test .buys)
+buys-by c =
     let t = c .before .before in
-    ap (λ (o : Order). best o (waitingIn (t .pairs .book))) (sym e)
-    ∙ search-ends (c .before .search .inv .1) (c .search-test .left)
+    ap (λ (o : Order). best o (waitingIn (t .pairs .book))) (sym (t .before .before .counterparty .ensures)) ∙ (finds c) .0
+
+sells-by : (c : tie.Left-search Inv-search μ-search Inv-shift μ-shift Inv-off μ-off Inv-pairs μ-pairs) →
+    let t = c .before .before in
+    let a = (start t) .args in
+    best (counterparty Buy (a .security) (a .limit)) (waitingIn (t .pairs .book)) ≡ bestOf (c .search-test .sells)
+sells-by c =
+    let t = c .before .before in
+    ap (λ (o : Order). best o (waitingIn (t .pairs .book))) (sym (t .before .counterparty2 .ensures)) ∙ (finds c) .1
 
 -- the place where both are found
 abbrev Here : Type 0
-Here = tie.After-known-told2 Inv-search μ-search Inv-keep μ-keep Inv-pairs μ-pairs
+Here = tie.After-known-told2 Inv-search μ-search Inv-shift μ-shift Inv-off μ-off Inv-pairs μ-pairs
 
-abbrev told : Here → tie.After-known-told Inv-search μ-search Inv-keep μ-keep Inv-pairs μ-pairs
+abbrev told : Here → tie.After-known-told Inv-search μ-search Inv-shift μ-shift Inv-off μ-off Inv-pairs μ-pairs
 told c = c .before .before .before
 
-abbrev searched : Here → tie.After-search Inv-search μ-search Inv-keep μ-keep Inv-pairs μ-pairs
+abbrev searched : Here → tie.Left-search Inv-search μ-search Inv-shift μ-shift Inv-off μ-off Inv-pairs μ-pairs
 searched c = (told c) .before .before .before
 
 abbrev turn : Here → Turn
@@ -196,31 +247,17 @@ at c = (told c) .before .buys .given .0 .0
 abbrev to : Here → ℕ
 to c = c .before .sells .given .0 .0
 
-buy-by : (c : Here) →
-    let a = (start (turn c)) .args in
-    (limit : Kind) → (turn c) .before .before .counterparty .result ≡ counterparty Sell (a .security) limit
-    → best (counterparty Sell (a .security) limit) (waitingIn ((turn c) .pairs .book))
-    ≡ found (at c) ((told c) .before .buys .given .0 .1 .0)
-buy-by c limit e = buys-by (searched c) limit e ∙ ap bestOf ((told c) .before .buys .given .1)
-
-sell-by : (c : Here) →
-    let a = (start (turn c)) .args in
-    (limit : Kind) → (turn c) .before .counterparty2 .result ≡ counterparty Buy (a .security) limit
-    → best (counterparty Buy (a .security) limit) (waitingIn ((turn c) .pairs .book))
-    ≡ found (to c) (c .before .sells .given .0 .1 .0)
-sell-by c limit e = sells-by (searched c) limit e ∙ ap bestOf (c .before .sells .given .1)
-
 buy-found : (c : Here) →
     let a = (start (turn c)) .args in
     best (counterparty Sell (a .security) (a .limit)) (waitingIn ((turn c) .pairs .book))
     ≡ found (at c) ((told c) .before .buys .given .0 .1 .0)
-buy-found c = buy-by c ((start (turn c)) .args .limit) ((turn c) .before .before .counterparty .ensures)
+buy-found c = buys-by (searched c) ∙ ap bestOf ((told c) .before .buys .given .1)
 
 sell-found : (c : Here) →
     let a = (start (turn c)) .args in
     best (counterparty Buy (a .security) (a .limit)) (waitingIn ((turn c) .pairs .book))
     ≡ found (to c) (c .before .sells .given .0 .1 .0)
-sell-found c = sell-by c ((start (turn c)) .args .limit) ((turn c) .before .counterparty2 .ensures)
+sell-found c = sells-by (searched c) ∙ ap bestOf (c .before .sells .given .1)
 
 buy-index : (c : Here) → at c < (turn c) .pairs .book .count
 buy-index c = going-buy (goes (turn c)) _ _ _ _ (buy-found c) (sell-found c)
@@ -241,10 +278,10 @@ one c = let b = (turn c) .pairs .book in sym (first-at (b .count) (b .orders) (a
 other : (c : Here) → orderAt ((turn c) .pairs .book .orders) (to c) ≡ orderAt (waitingIn ((turn c) .pairs .book)) (to c)
 other c = let b = (turn c) .pairs .book in sym (first-at (b .count) (b .orders) (to c) (sell-index c))
 
-abbrev here : tie.After-lesser Inv-search μ-search Inv-keep μ-keep Inv-pairs μ-pairs → Here
+abbrev here : tie.After-lesser Inv-search μ-search Inv-shift μ-shift Inv-off μ-off Inv-pairs μ-pairs → Here
 here c = c .before .before .before
 
-part : (c : tie.After-lesser Inv-search μ-search Inv-keep μ-keep Inv-pairs μ-pairs) →
+part : (c : tie.After-lesser Inv-search μ-search Inv-shift μ-shift Inv-off μ-off Inv-pairs μ-pairs) →
     let k = here c in
     let w = waitingIn ((turn k) .pairs .book) in
     c .lesser .result ≡ min ((orderAt w (at k)) .lots) ((orderAt w (to k)) .lots)
@@ -255,22 +292,22 @@ part c =
     ∙ ap (λ (o : Order). min (o .lots) ((orderAt (b .orders) (to k)) .lots)) (one k)
     ∙ ap (λ (o : Order). min ((orderAt (waitingIn b) (at k)) .lots) (o .lots)) (other k)
 
-mul-buy : tie.Need-mul-buy Inv-search μ-search Inv-keep μ-keep Inv-pairs μ-pairs
+mul-buy : tie.Need-mul-buy Inv-search μ-search Inv-shift μ-shift Inv-off μ-off Inv-pairs μ-pairs
 mul-buy c = omega (arith, buy-inside c)
 
-element-copy-out-buy : tie.Need-element-copy-out-buy Inv-search μ-search Inv-keep μ-keep Inv-pairs μ-pairs
+element-copy-out-buy : tie.Need-element-copy-out-buy Inv-search μ-search Inv-shift μ-shift Inv-off μ-off Inv-pairs μ-pairs
 element-copy-out-buy c = buy-inside c
 
-mul-sell : tie.Need-mul-sell Inv-search μ-search Inv-keep μ-keep Inv-pairs μ-pairs
+mul-sell : tie.Need-mul-sell Inv-search μ-search Inv-shift μ-shift Inv-off μ-off Inv-pairs μ-pairs
 mul-sell c = omega (arith, sell-inside (c .before))
 
-element-copy-out-sell : tie.Need-element-copy-out-sell Inv-search μ-search Inv-keep μ-keep Inv-pairs μ-pairs
+element-copy-out-sell : tie.Need-element-copy-out-sell Inv-search μ-search Inv-shift μ-shift Inv-off μ-off Inv-pairs μ-pairs
 element-copy-out-sell c = sell-inside (c .before)
 
-lesser-requires : tie.Need-lesser-requires Inv-search μ-search Inv-keep μ-keep Inv-pairs μ-pairs
+lesser-requires : tie.Need-lesser-requires Inv-search μ-search Inv-shift μ-shift Inv-off μ-off Inv-pairs μ-pairs
 lesser-requires c κs = tt
 
-execute-requires : tie.Need-execute-requires Inv-search μ-search Inv-keep μ-keep Inv-pairs μ-pairs
+execute-requires : tie.Need-execute-requires Inv-search μ-search Inv-shift μ-shift Inv-off μ-off Inv-pairs μ-pairs
 execute-requires c κs =
     let l = c .before .before .before in
     let k = here l in
@@ -278,127 +315,155 @@ execute-requires c κs =
 
 -- behind the trade
 abbrev Done : Type 0
-Done = tie.After-execute Inv-search μ-search Inv-keep μ-keep Inv-pairs μ-pairs
+Done = tie.After-execute Inv-search μ-search Inv-shift μ-shift Inv-off μ-off Inv-pairs μ-pairs
 
-abbrev sized : Done → tie.After-lesser Inv-search μ-search Inv-keep μ-keep Inv-pairs μ-pairs
+abbrev sized : Done → tie.After-lesser Inv-search μ-search Inv-shift μ-shift Inv-off μ-off Inv-pairs μ-pairs
 sized c = c .before .before .before .before
 
-sub-with-lots : tie.Need-sub-with-lots Inv-search μ-search Inv-keep μ-keep Inv-pairs μ-pairs
-sub-with-lots c = rw ((sized (c .before .before .before)) .lesser .ensures) (min-le-left _ _)
+earlier-of-requires : tie.Need-earlier-of-requires Inv-search μ-search Inv-shift μ-shift Inv-off μ-off Inv-pairs μ-pairs
+earlier-of-requires c κs = tt
 
-with-lots-requires : tie.Need-with-lots-requires Inv-search μ-search Inv-keep μ-keep Inv-pairs μ-pairs
+later-of-requires : tie.Need-later-of-requires Inv-search μ-search Inv-shift μ-shift Inv-off μ-off Inv-pairs μ-pairs
+later-of-requires c κs = tt
+
+-- both places are known by which is the later one
+abbrev Placed : Type 0
+Placed = tie.After-later-of Inv-search μ-search Inv-shift μ-shift Inv-off μ-off Inv-pairs μ-pairs
+
+abbrev done : Placed → Done
+done c = c .before .before .before .before
+
+abbrev spot : Placed → Here
+spot c = here (sized (done c))
+
+off-holds : tie.Need-off-holds Inv-search μ-search Inv-shift μ-shift Inv-off μ-off Inv-pairs μ-pairs
+off-holds c =
+    let k = spot c in
+    taking-starts ((turn k) .pairs .book) (at k) (to k) _ _ _ (roomy (turn k)) (buy-index k) (sell-index k)
+    (going-apart (goes (turn k)) _ _ _ _ (buy-found k) (sell-found k)) (c .before .earlier-of .ensures) (c .later-of .ensures)
+
+-- the order that loses lots stands in the array
+abbrev Taker : Type 0
+Taker = tie.At-off Inv-search μ-search Inv-shift μ-shift Inv-off μ-off Inv-pairs μ-pairs
+
+stands : (c : Taker) → c .off .place < maxWaiting
+stands c = let h = c .off .inv in omega (arith, h .inside, h .room, h .long, (turn (spot (c .before))) .pairs .inv .0)
+
+mul-o-2 : tie.Need-mul-o-2 Inv-search μ-search Inv-shift μ-shift Inv-off μ-off Inv-pairs μ-pairs
+mul-o-2 c = omega (arith, stands c)
+
+element-copy-out-o-2 : tie.Need-element-copy-out-o-2 Inv-search μ-search Inv-shift μ-shift Inv-off μ-off Inv-pairs μ-pairs
+element-copy-out-o-2 c = stands c
+
+sub-last : tie.Need-sub-last Inv-search μ-search Inv-shift μ-shift Inv-off μ-off Inv-pairs μ-pairs
+sub-last c = omega (arith, c .before .before .before .off .inv .inside)
+
+shift-holds : tie.Need-shift-holds Inv-search μ-search Inv-shift μ-shift Inv-off μ-off Inv-pairs μ-pairs
+shift-holds c =
+    let t = c .before .before .before .off in (
+      record { codes = refl; turnover = refl; filled = refl; left = refl },
+      moved-starts (t .book .orders) (t .place) (t .book .count - 1) (omega (arith, t .inv .inside)),
+    )
+
+-- the order that moves stands in the array
+moves : (c : tie.In-shift Inv-search μ-search Inv-shift μ-shift Inv-off μ-off Inv-pairs μ-pairs) → c .before .shift .j + 1 < maxWaiting
+moves c =
+    let o = c .before .before .before .before .before in
+    let h = o .off .inv in
+    omega (arith, c .shift-test .taken, h .inside, h .room, h .long, (turn (spot (o .before))) .pairs .inv .0)
+
+add-later : tie.Need-add-later Inv-search μ-search Inv-shift μ-shift Inv-off μ-off Inv-pairs μ-pairs
+add-later c = omega (arith, moves c)
+
+mul-later : tie.Need-mul-later Inv-search μ-search Inv-shift μ-shift Inv-off μ-off Inv-pairs μ-pairs
+mul-later c = omega (arith, moves c)
+
+element-copy-out-later : tie.Need-element-copy-out-later Inv-search μ-search Inv-shift μ-shift Inv-off μ-off Inv-pairs μ-pairs
+element-copy-out-later c = omega (arith, moves c)
+
+mul-later-2 : tie.Need-mul-later-2 Inv-search μ-search Inv-shift μ-shift Inv-off μ-off Inv-pairs μ-pairs
+mul-later-2 c = omega (arith, moves (c .before))
+
+element-set-from-later : tie.Need-element-set-from-later Inv-search μ-search Inv-shift μ-shift Inv-off μ-off Inv-pairs μ-pairs
+element-set-from-later c = omega (arith, moves (c .before))
+
+add-j : tie.Need-add-j Inv-search μ-search Inv-shift μ-shift Inv-off μ-off Inv-pairs μ-pairs
+add-j c = omega (arith, moves (c .before))
+
+shift-less : tie.Need-shift-less Inv-search μ-search Inv-shift μ-shift Inv-off μ-off Inv-pairs μ-pairs
+shift-less c = omega (arith, c .before .shift-test .taken)
+
+shift-again : tie.Need-shift-again Inv-search μ-search Inv-shift μ-shift Inv-off μ-off Inv-pairs μ-pairs
+shift-again c =
+    let l = c .before .before .shift in
+    let i = l .inv .0 in
+    let h = c .before .before .before .before .before .before .off .inv in (
+      record { codes = i .codes; turnover = i .turnover; filled = i .filled; left = i .left },
+      moved-next (l .inv .1) (omega (arith, h .inside, h .room)) _ (c .before .shift-test .taken),
+    )
+
+sub-with-lots : tie.Need-sub-with-lots Inv-search μ-search Inv-shift μ-shift Inv-off μ-off Inv-pairs μ-pairs
+sub-with-lots c = omega (arith, c .before .if2 .left)
+
+with-lots-requires : tie.Need-with-lots-requires Inv-search μ-search Inv-shift μ-shift Inv-off μ-off Inv-pairs μ-pairs
 with-lots-requires c κs = tt
 
-mul-book : tie.Need-mul-book Inv-search μ-search Inv-keep μ-keep Inv-pairs μ-pairs
-mul-book c = omega (arith, buy-inside (here (sized (c .before .before .before .before))))
+mul-t70 : tie.Need-mul-t70 Inv-search μ-search Inv-shift μ-shift Inv-off μ-off Inv-pairs μ-pairs
+mul-t70 c = omega (arith, stands (c .before .before .before .before .before))
 
-element-set-from-book : tie.Need-element-set-from-book Inv-search μ-search Inv-keep μ-keep Inv-pairs μ-pairs
-element-set-from-book c = buy-inside (here (sized (c .before .before .before .before)))
+element-set-from-book : tie.Need-element-set-from-book Inv-search μ-search Inv-shift μ-shift Inv-off μ-off Inv-pairs μ-pairs
+element-set-from-book c = stands (c .before .before .before .before .before)
 
-sub-with-lots-2 : tie.Need-sub-with-lots-2 Inv-search μ-search Inv-keep μ-keep Inv-pairs μ-pairs
-sub-with-lots-2 c = rw ((sized (c .before .before .before .before .before)) .lesser .ensures) (min-le-right _ _)
+-- the lots are off the order
+abbrev Joined : Type 0
+Joined = tie.Joined2 Inv-search μ-search Inv-shift μ-shift Inv-off μ-off Inv-pairs μ-pairs
 
-with-lots-requires-2 : tie.Need-with-lots-requires-2 Inv-search μ-search Inv-keep μ-keep Inv-pairs μ-pairs
-with-lots-requires-2 c κs = tt
+abbrev taker : Joined → Taker
+taker c = c .before .before .before
 
--- both orders have their lots less
-abbrev Less : Type 0
-Less = tie.After-with-lots2 Inv-search μ-search Inv-keep μ-keep Inv-pairs μ-pairs
+abbrev lots : Taker → ℕ
+lots c = (sized (done (c .before))) .lesser .result
 
-abbrev done : Less → Done
-done c = c .before .before .before .before .before .before
+off : (c : Joined) → Taken ((taker c) .off .book) ((taker c) .off .place) (lots (taker c)) (c .if2 .book)
+off c =
+    let t = taker c in
+    let b = t .off .book in
+    ⊎-elim
+    (λ w.
+    subst (Taken b (t .off .place) (lots t)) (sym (w .3))
+    (taken-filled (t .off .inv) (w .0 .taken) (w .1 .inv .1) (w .2 .left) _ refl refl
+    (let i = w .1 .inv .0 in record { codes = i .codes; turnover = i .turnover; filled = i .filled; left = i .left })))
+    (λ w.
+    subst (Taken b (t .off .place) (lots t)) (sym (w .3))
+    (taken-less (t .off .inv) (w .0 .left) (w .2 .result) (w .2 .ensures) _ refl refl
+    (record { codes = refl; turnover = refl; filled = refl; left = refl })))
+    (c .if2 .came)
 
-mul-t39 : tie.Need-mul-t39 Inv-search μ-search Inv-keep μ-keep Inv-pairs μ-pairs
-mul-t39 c = omega (arith, sell-inside (here (sized (done c))))
+off-less : tie.Need-off-less Inv-search μ-search Inv-shift μ-shift Inv-off μ-off Inv-pairs μ-pairs
+off-less c = omega (arith, (taker (c .before)) .off .inv .low, c .if3 .left)
 
-element-set-from-book-2 : tie.Need-element-set-from-book-2 Inv-search μ-search Inv-keep μ-keep Inv-pairs μ-pairs
-element-set-from-book-2 c = sell-inside (here (sized (done c)))
+off-again : tie.Need-off-again Inv-search μ-search Inv-shift μ-shift Inv-off μ-off Inv-pairs μ-pairs
+off-again c = taking-next ((taker (c .before)) .off .inv) (off (c .before)) (c .if3 .left)
 
-keep-holds : tie.Need-keep-holds Inv-search μ-search Inv-keep μ-keep Inv-pairs μ-pairs
-keep-holds c = (record { codes = refl; turnover = refl; filled = refl; left = refl }, keeping-starts _ _)
-
--- the orders are within the array
-roomy : (c : Less) →
-    let b = (turn (here (sized (done c)))) .pairs .book in
-    b .count ≤ length (b .orders)
-roomy c = let t = turn (here (sized (done c))) in omega (arith, going-room (goes t), t .pairs .inv .0)
-
-long : (c : Less) →
-    let k = here (sized (done c)) in
-    let w = (turn k) .pairs .book .orders in
-    length (set (set w (at k) (c .before .before .with-lots .result)) (to k) (c .with-lots2 .result)) ≡ length w
-long c =
-    let k = here (sized (done c)) in
-    let w = (turn k) .pairs .book .orders in
-    let x = c .before .before .with-lots .result in
-    length-set (set w (at k) x) (to k) (c .with-lots2 .result) ∙ length-set w (at k) x
-
-passes : (c : tie.In-keep Inv-search μ-search Inv-keep μ-keep Inv-pairs μ-pairs) → c .before .keep .k < maxWaiting
-passes c = omega (arith, c .keep-test .taken, going-room (goes (turn (here (sized (done (c .before .before)))))))
-
-mul-o-2 : tie.Need-mul-o-2 Inv-search μ-search Inv-keep μ-keep Inv-pairs μ-pairs
-mul-o-2 c = omega (arith, passes c)
-
-element-copy-out-o-2 : tie.Need-element-copy-out-o-2 Inv-search μ-search Inv-keep μ-keep Inv-pairs μ-pairs
-element-copy-out-o-2 c = passes c
-
-mul-o-3 : tie.Need-mul-o-3 Inv-search μ-search Inv-keep μ-keep Inv-pairs μ-pairs
-mul-o-3 c = omega (arith, passes (c .before), c .before .before .keep .inv .1 .below)
-
-element-set-from-o : tie.Need-element-set-from-o Inv-search μ-search Inv-keep μ-keep Inv-pairs μ-pairs
-element-set-from-o c = omega (arith, passes (c .before), c .before .before .keep .inv .1 .below)
-
-slots-of-requires : tie.Need-slots-of-requires Inv-search μ-search Inv-keep μ-keep Inv-pairs μ-pairs
-slots-of-requires c κs = tt
-
--- one more order passed
-next : (c : tie.After-slots-of Inv-search μ-search Inv-keep μ-keep Inv-pairs μ-pairs) →
-    let l = c .before .before .before .keep in
-    let d = c .before .before .before .before in
-    let h = here (sized (done d)) in
-    let b = (turn h) .pairs .book in
-    Keeping (set (set (b .orders) (at h) (d .before .before .with-lots .result)) (to h) (d .with-lots2 .result))
-    (set (l .book .orders) (l .kept) (orderAt (l .book .orders) (l .k))) (b .count) (l .k + 1)
-    (l .kept + c .slots-of .result)
-next c =
-    let t = c .before .before in
-    let d = t .before .before in
-    rw (c .slots-of .ensures)
-    (keeping-next (t .before .keep .inv .1)
-    (omega (arith, roomy d, long d))
-    (t .keep-test .taken))
-
-add-kept : tie.Need-add-kept Inv-search μ-search Inv-keep μ-keep Inv-pairs μ-pairs
-add-kept c = omega (arith, (next c) .below, passes (c .before .before))
-
-add-k : tie.Need-add-k Inv-search μ-search Inv-keep μ-keep Inv-pairs μ-pairs
-add-k c = omega (arith, passes (c .before .before))
-
-keep-less : tie.Need-keep-less Inv-search μ-search Inv-keep μ-keep Inv-pairs μ-pairs
-keep-less c = omega (arith, c .before .before .keep-test .taken)
-
-keep-again : tie.Need-keep-again Inv-search μ-search Inv-keep μ-keep Inv-pairs μ-pairs
-keep-again c =
-    let i = c .before .before .before .keep .inv .0 in
-    (record { codes = i .codes; turnover = i .turnover; filled = i .filled; left = i .left }, next c)
-
--- the pair has traded, and the orders without lots are gone
+-- they are off both
 abbrev Gone : Type 0
-Gone = tie.After-keep Inv-search μ-search Inv-keep μ-keep Inv-pairs μ-pairs
+Gone = tie.Then3 Inv-search μ-search Inv-shift μ-shift Inv-off μ-off Inv-pairs μ-pairs
+
+abbrev last : Gone → Taker
+last c = taker (c .before)
 
 abbrev traded : Gone → Done
-traded c = done (c .before .before)
+traded c = done ((last c) .before)
 
 abbrev place : Gone → Here
 place c = here (sized (traded c))
 
 abbrev left : Gone → OrderBook
 left c =
-    let l = c .before .keep in
-    let b = l .book in
+    let b = c .before .if2 .book in
     record {
       orders = b .orders;
-      count = l .kept;
+      count = b .count;
       codes = b .codes;
       turnover = b .turnover;
       filled = b .filled + (sized (traded c)) .lesser .result;
@@ -409,83 +474,74 @@ left c =
 waits : (c : Gone) →
     let k = place c in
     waitingIn (left c) ≡ takeBoth (waitingIn ((turn k) .pairs .book)) (at k) (to k) ((sized (traded c)) .lesser .result)
-waits c =
-    let k = place c in
-    let d = c .before .before in
-    let b = (turn k) .pairs .book in
-    keeping-both (b .orders) (c .before .keep .book .orders) (b .count) (at k) (to k) ((sized (traded c)) .lesser .result)
-    (c .before .keep .kept) (c .before .keep .k) _ _ (roomy d) (going-positive (goes (turn k))) (buy-index k) (sell-index k)
-    (going-apart (goes (turn k)) _ _ _ _ (buy-found k) (sell-found k)) (d .before .before .with-lots .ensures)
-    (d .with-lots2 .ensures) (c .before .keep .inv .1) (c .keep-test .left)
+waits c = taking-ends ((last c) .off .inv) (off (c .before)) (c .if3 .taken)
 
-add-book : tie.Need-add-book Inv-search μ-search Inv-keep μ-keep Inv-pairs μ-pairs
+same : (c : Gone) → Same ((turn (place c)) .pairs .book) (c .before .if2 .book)
+same c = taken-same ((last c) .off .inv) (off (c .before))
+
+add-book : tie.Need-add-book Inv-search μ-search Inv-shift μ-shift Inv-off μ-off Inv-pairs μ-pairs
 add-book c =
     let k = place c in
     let g = goes (turn k) in
     omega (
       arith,
-      c .before .keep .inv .0 .filled,
+      (same c) .filled,
       part (sized (traded c)),
       going-lots g _ _ _ _ (buy-found k) (sell-found k),
       g .count,
       g .counts .most,
     )
 
-add-made : tie.Need-add-made Inv-search μ-search Inv-keep μ-keep Inv-pairs μ-pairs
+add-made : tie.Need-add-made Inv-search μ-search Inv-shift μ-shift Inv-off μ-off Inv-pairs μ-pairs
 add-made c = let g = goes (turn (place c)) in omega (arith, g .count, g .counts .most)
 
-pairs-less : tie.Need-pairs-less Inv-search μ-search Inv-keep μ-keep Inv-pairs μ-pairs
+pairs-less : tie.Need-pairs-less Inv-search μ-search Inv-shift μ-shift Inv-off μ-off Inv-pairs μ-pairs
 pairs-less c =
     let k = place c in
-    let i = c .before .keep .inv .0 in
+    let i = same c in
     going-less (goes (turn k)) _ _ _ _ (buy-found k) (sell-found k) (one k) (other k) (part (sized (traded c))) (left c)
     ((traded c) .execute .ensures) (waits c) (i .codes) (i .turnover) (i .left)
     (ap (λ (n : ℕ). n + (sized (traded c)) .lesser .result) (i .filled))
 
-pairs-again : tie.Need-pairs-again Inv-search μ-search Inv-keep μ-keep Inv-pairs μ-pairs
+pairs-again : tie.Need-pairs-again Inv-search μ-search Inv-shift μ-shift Inv-off μ-off Inv-pairs μ-pairs
 pairs-again c =
     let k = place c in
-    let i = c .before .keep .inv .0 in (
-      c .before .keep .inv .1 .long ∙ long (c .before .before) ∙ (turn k) .pairs .inv .0,
-      λ limit es eb r x f n.
-          going-next ((turn k) .pairs .inv .1 limit es eb r x f n) _ _ _ _ (buy-by k limit es) (sell-by k limit eb) (one k) (other k)
+    let i = same c in (
+      taken-long ((last c) .off .inv) (off (c .before)) ∙ (turn k) .pairs .inv .0,
+      λ r x f n.
+          going-next ((turn k) .pairs .inv .1 r x f n) _ _ _ _ (buy-found k) (sell-found k) (one k) (other k)
           (part (sized (traded c))) (left c) ((traded c) .execute .ensures) (waits c) (i .codes) (i .turnover) (i .left)
           (ap (λ (n : ℕ). n + (sized (traded c)) .lesser .result) (i .filled)),
     )
 
-same-length : tie.Need-same-length Inv-search μ-search Inv-keep μ-keep Inv-pairs μ-pairs
+same-length : tie.Need-same-length Inv-search μ-search Inv-shift μ-shift Inv-off μ-off Inv-pairs μ-pairs
 same-length c = (goes (c .before .before .before .before)) .long
 
-returns : tie.Need-returns Inv-search μ-search Inv-keep μ-keep Inv-pairs μ-pairs
+returns : tie.Need-returns Inv-search μ-search Inv-shift μ-shift Inv-off μ-off Inv-pairs μ-pairs
 returns c =
     let t = c .before .before .before .before in
-    let b = start t in
     record {
       counts = going-counts (goes t) _ refl refl refl;
       long = (goes t) .long;
       under = λ r x f.
-          going-no-buy (t .pairs .inv .1 (b .args .limit) (t .before .before .counterparty .ensures) (t .before .counterparty2 .ensures)
-          r x f (b .pre .counts))
-          (buys-by (c .before .before) _ (t .before .before .counterparty .ensures) ∙ ap bestOf (c .enum-told .given .1)) _ refl refl refl refl;
+          going-no-buy (t .pairs .inv .1 r x f ((start t) .pre .counts))
+          (buys-by (c .before .before) ∙ ap bestOf (c .enum-told .given .1)) _ refl refl refl refl;
     }
 
-same-length-2 : tie.Need-same-length-2 Inv-search μ-search Inv-keep μ-keep Inv-pairs μ-pairs
+same-length-2 : tie.Need-same-length-2 Inv-search μ-search Inv-shift μ-shift Inv-off μ-off Inv-pairs μ-pairs
 same-length-2 c = (goes (c .before .before .before .before .before .before .before)) .long
 
-returns-2 : tie.Need-returns-2 Inv-search μ-search Inv-keep μ-keep Inv-pairs μ-pairs
+returns-2 : tie.Need-returns-2 Inv-search μ-search Inv-shift μ-shift Inv-off μ-off Inv-pairs μ-pairs
 returns-2 c =
     let k = c .before .before in
     let s = k .before .before .before in
     let t = s .before .before in
-    let b = start t in
     record {
       counts = going-counts (goes t) _ refl refl refl;
       long = (goes t) .long;
       under = λ r x f.
-          going-no-sell (t .pairs .inv .1 (b .args .limit) (t .before .before .counterparty .ensures) (t .before .counterparty2 .ensures)
-          r x f (b .pre .counts)) _ _
-          (buys-by s _ (t .before .before .counterparty .ensures) ∙ ap bestOf (k .before .buys .given .1))
-          (sells-by s _ (t .before .counterparty2 .ensures) ∙ ap bestOf (c .enum-told2 .given .1)) _ refl refl refl refl;
+          going-no-sell (t .pairs .inv .1 r x f ((start t) .pre .counts)) _ _
+          (buys-by s ∙ ap bestOf (k .before .buys .given .1)) (sells-by s ∙ ap bestOf (c .enum-told2 .given .1)) _ refl refl refl refl;
     }
 
 pub pair-all-spec : {M : Type 1} → statement M
@@ -494,8 +550,10 @@ pair-all-spec =
     (tie.spec
     Inv-search
     μ-search
-    Inv-keep
-    μ-keep
+    Inv-shift
+    μ-shift
+    Inv-off
+    μ-off
     Inv-pairs
     μ-pairs
     mul-turnover
@@ -508,6 +566,7 @@ pair-all-spec =
     element-copy-out-o
     preferred-requires
     preferred-requires-2
+    decided-requires
     add-i
     search-less
     search-again
@@ -521,24 +580,27 @@ pair-all-spec =
     element-copy-out-sell
     lesser-requires
     execute-requires
-    sub-with-lots
-    with-lots-requires
-    mul-book
-    element-set-from-book
-    sub-with-lots-2
-    with-lots-requires-2
-    mul-t39
-    element-set-from-book-2
-    keep-holds
+    earlier-of-requires
+    later-of-requires
+    off-holds
     mul-o-2
     element-copy-out-o-2
-    mul-o-3
-    element-set-from-o
-    slots-of-requires
-    add-kept
-    add-k
-    keep-less
-    keep-again
+    sub-last
+    shift-holds
+    add-later
+    mul-later
+    element-copy-out-later
+    mul-later-2
+    element-set-from-later
+    add-j
+    shift-less
+    shift-again
+    sub-with-lots
+    with-lots-requires
+    mul-t70
+    element-set-from-book
+    off-less
+    off-again
     add-book
     add-made
     pairs-less
