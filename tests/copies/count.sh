@@ -57,4 +57,10 @@ kind 'closing order' "$traded" "$(repeat 'P,0,B,0,1\n' 100)" 100
 kind "session's end, 128 waiting" "$traded$(repeat 'P,0,B,0,1\nP,1,L,0,1\n' 64)" 'Z\n' 1
 worded 'start of collecting' "$start" 'COLLECT\n' 1
 worded 'end of collecting, 128 waiting' "${start}COLLECT\\n$(repeat 'B,0,0,200,1,K\nL,1,0,200,1,K\n' 64)" 'AUCTION\n' 1
+offers=$(repeat 'OFFER,1,L,0,100,1,500,1\n' 60)
+deals="$start$offers$(repeat 'OFFER,0,B,0,100,1,500,1\n' 60)C\\nZ\\n"
+worded 'offer that waits' "$start" "$offers" 60
+worded 'offer that is met' "$start$offers" "$(repeat 'OFFER,0,B,0,100,1,500,1\n' 60)" 60
+worded 'new day, 60 deals open' "$deals" 'DAY,1\n' 1
+worded 'second part' "${deals}DAY,1\\n" "$(repeat 'SECOND,1\n' 60)" 60
 kind 'malformed line' "$start" "$(repeat 'Y\n' 1000)" 1000

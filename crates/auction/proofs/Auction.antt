@@ -13,13 +13,12 @@ use Rattle.market.specs.declared.Side.{Side}
 use Rattle.market.specs.declared.Side.the-variants.{Buy, Sell}
 use Rattle.market.specs.Tests.{_<?_, sumOf}
 use Rattle.market.specs.Day.{noOrder, orderAt}
-use Rattle.market.specs.Needs.{priceOr}
 use Rattle.market.specs.Matching.{Best, best, fitting, fittingLots, found, ifBuy, none, opposite, priceOf, reaches}
 use Rattle.market.specs.Pairing.{counterparty}
 use Rattle.market.specs.Auction.{auctionPrice, leading, lotsOffered, lotsWanted, priceOn, volume, writtenPrices}
 use Rattle.market.proofs.Logic.{never}
 use Rattle.market.proofs.Lists.{All, all-at, all-map}
-use Rattle.market.proofs.Needs.{isKept}
+use Rattle.market.specs.Needs.{isKept, keptPrice}
 use Rattle.market.proofs.Matching.{Chosen, best-chosen, none-fitting}
 use Rattle.market.proofs.Pairs.{meets}
 use Rattle.auction.specs.Laws.{Behind, Crossing, KeptAt, Priced, WrittenOn}
@@ -57,13 +56,15 @@ module _ (s : ℕ) (P : ℕ → Type 0) where
           (subst P none z, again a)
 
 -- a kept order that is met at price p
-dear : (p : ℕ) (k : Kind) → reaches Sell (kind.Kept p) k ≡ true → (isKept k ≡ true) × (p ≤ priceOr 0 k)
+dear : (p : ℕ) (k : Kind) → reaches Sell (kind.Kept p) k ≡ true → (isKept k ≡ true) × (p ≤ keptPrice k)
 dear p (kind.Kept q) e = (refl, leb-true p q e)
 dear p kind.Closing e = never e
+dear p (kind.Offer rate term q) e = never e
 
-cheap : (p : ℕ) (k : Kind) → reaches Buy (kind.Kept p) k ≡ true → (isKept k ≡ true) × (priceOr 0 k ≤ p)
+cheap : (p : ℕ) (k : Kind) → reaches Buy (kind.Kept p) k ≡ true → (isKept k ≡ true) × (keptPrice k ≤ p)
 cheap p (kind.Kept q) e = (refl, leb-true q p e)
 cheap p kind.Closing e = never e
+cheap p (kind.Offer rate term q) e = never e
 
 -- a kept order brings all of its lots at a price that reaches its own
 lots-kept : (x : Side) (w : List Order) (s p i : ℕ) → KeptAt (ifBuy x Sell Buy) w s i
@@ -153,11 +154,13 @@ module _ (w : List Order) (s : ℕ) where
           let n = meets Sell s (kind.Kept p) w j b d in
           let r = dear p ((orderAt w i) .kind) (m .reach) in
           let q = cheap p ((orderAt w j) .kind) (n .reach) in
+          let x = m .stands in
+          let y = n .stands in
           absurd (h (record {
             buy = i;
             sell = j;
-            bought = record { inside = m .inside; security = m .security; side = m .side; kept = r .0 };
-            sold = record { inside = n .inside; security = n .security; side = n .side; kept = q .0 };
+            bought = record { inside = x .inside; security = x .security; side = x .side; kept = r .0 };
+            sold = record { inside = y .inside; security = y .security; side = y .side; kept = q .0 };
             reach = omega arith;
           }))
 

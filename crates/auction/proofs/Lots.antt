@@ -25,7 +25,7 @@ use Rattle.market.specs.Step.{effect}
 use Rattle.market.proofs.Lists.{All, all-append, all-map, sum-append}
 use Rattle.market.proofs.Waiting.{at-takeOff, length-takeOff, takeOff-suc}
 use Rattle.market.proofs.Matching.{Chosen, best-chosen, none-fitting}
-use Rattle.market.proofs.Pairs.{Both, meet-apart, meets, pairs-no-buy, pairs-no-sell, pairs-one, take-both}
+use Rattle.market.proofs.Pairs.{Both, meets, pairs-no-buy, pairs-no-sell, pairs-one, stand-apart, take-both}
 use Rattle.auction.specs.Laws.{Auctioned, Crossing, auctionTrades, lotsIn, lotsTradedAt, termsAt}
 use Rattle.auction.proofs.Prices.{price-other}
 use Rattle.auction.proofs.Auction.{apart-none, auction-most}
@@ -145,9 +145,9 @@ module _ (s : ℕ) (t : Terms) where
       go (found i a) ex cx (found j b) ey cy =
           let w = d .waiting in
           let n = min (lotsAt d i) (lotsAt d j) in
-          let mb = meets Buy s (t .limit) w i a cx in
-          let ms = meets Sell s (t .limit) w j b cy in
-          let apart = meet-apart s (t .limit) w i j mb ms in
+          let mb = (meets Buy s (t .limit) w i a cx) .stands in
+          let ms = (meets Sell s (t .limit) w j b cy) .stands in
+          let apart = stand-apart s w i j mb ms in
           let two = take-both w i j n (mb .inside) (ms .inside) apart in
           let r = again (pairedOff d i j (t .price) n) (two .shorter (omega arith)) in
           let seen = both-fitting w (takeBoth w i j n) i j n two (omega arith) (omega arith) in

@@ -14,7 +14,7 @@ use Rattle.market.specs.Matching.{fitting, priceOf, reaches}
 use Rattle.market.specs.Pairing.{counterparty}
 use Rattle.market.specs.Auction.{lotsOffered, lotsWanted, priceOn, volume}
 use Rattle.market.proofs.Lists.{All}
-use Rattle.market.proofs.Needs.{isKept}
+use Rattle.market.specs.Needs.{isKept}
 use Rattle.auction.specs.Ladder.{lotsFor}
 use Rattle.auction.proofs.Prices.{lots-at, unpriced}
 

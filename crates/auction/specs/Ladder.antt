@@ -13,7 +13,7 @@ use Rattle.market.specs.Day.{orderAt}
 use Rattle.market.specs.View.{firstOrders}
 use Rattle.market.specs.Matching.{opposite}
 use Rattle.market.specs.Auction.{gap, priceOn, volume}
-use Rattle.market.proofs.Needs.{isKept}
+use Rattle.market.specs.Needs.{isKept}
 use Rattle.matching.specs.Orders.{FewLots}
 use Rattle.auction.specs.declared.Level.{Level}
 use Rattle.auction.specs.declared.Rung.{Rung}

@@ -17,7 +17,7 @@ use Rattle.market.specs.Pairing.{Terms, pairs}
 use Rattle.market.specs.Auction.{auctionPrice, gap, volume}
 use Rattle.market.specs.Step.{effect}
 use Rattle.market.proofs.Lists.{All}
-use Rattle.market.proofs.Needs.{isKept}
+use Rattle.market.specs.Needs.{isKept}
 
 -- "most lots trade. Ties go to the smaller gap between lots wanted and lots offered, then to the lower price": p does
 -- not go before q

@@ -44,10 +44,10 @@ pub record Few (bound : ℕ) (ts : List Trade) (l : List ℕ) : Type 0 where
   pub trades : length ts ≤ maxTrades
   pub numbers : numbersPerTrade * length ts ≤ length l
 
-no-trades : (most : ℕ) (l : List ℕ) → Few most [] l
+pub no-trades : (most : ℕ) (l : List ℕ) → Few most [] l
 no-trades most l = record { most = omega arith; trades = omega arith; numbers = omega arith }
 
-few : (most : ℕ) (ts : List Trade) (l : List ℕ) → enoughLent (length l) ≡ true → length ts ≤ most → most ≤ maxTrades
+pub few : (most : ℕ) (ts : List Trade) (l : List ℕ) → enoughLent (length l) ≡ true → length ts ≤ most → most ≤ maxTrades
     → Few most ts l
 few most ts l e h m =
     let k = leb-true lentAtLeast (length l) e in
@@ -75,7 +75,7 @@ order-few b d l p m k g lent e = go (isCollecting (d .phase)) refl
         rw (taken-matched d o k c)
         (few (length (d .waiting)) ((fill (admitted d o) o) .trades) l lent (ok .few) (omega (arith, g .standing .room)))
 
-effect-few : {U : Type 0} {r : Rules} (b : Book) (d : Day) (c : Call) (l : List ℕ) → Good U r b d
+pub effect-few : {U : Type 0} {r : Rules} (b : Book) (d : Day) (c : Call) (l : List ℕ) → Good U r b d
     → firstNo (questions d (length l) c) ≡ 0 → Few (mostTrades d c) ((effect d c) .trades) l
 unfolding questions effect placed
 effect-few b d (increase x p column a) l g e = no-trades 0 l
@@ -121,7 +121,7 @@ result-few b d c l g = go (firstNo (allQuestions d (length l) c)) refl
     go (suc n) e = no-trades _ l
 
 -- the answer counts the trades
-effect-counts : (d : Day) (c : Call) → (numbersOf ((effect d c) .answer)) .trades ≡ length ((effect d c) .trades)
+pub effect-counts : (d : Day) (c : Call) → (numbersOf ((effect d c) .answer)) .trades ≡ length ((effect d c) .trades)
 unfolding effect entered placed
 effect-counts d (increase x p column a) = refl
 effect-counts d (decrease x p column a) = refl

@@ -1,46 +1,37 @@
--- Demand 3 on the definition and over States, and soundness kept by every call.
+-- What demand 3 says of a trading day, from the opened one on, and soundness kept by every call.
 use Prim.Native.Nat.{ℕ, zero, suc, _≤_, _<_}
 use native.Mathlib.Omega.{arith}
 use mathlib.Core.Path.{_≡_, refl, ap, sym, _∙_, subst}
 use mathlib.Core.List.{List, [], _∷_}
 use mathlib.Core.Bool.{true, false}
 use lib.ListN.{length, replicate, take}
-use Rattle.market.specs.declared.Answer.{Answer}
 use Rattle.market.specs.declared.Order.{Order}
-use Rattle.market.specs.declared.Phase.the-variants.{Open}
-use Rattle.market.specs.declared.State.{State}
 use Rattle.market.specs.Limits.{cells, columns, market, maxSecurities, positionNumbers}
 use Rattle.market.specs.Tests.{sumOf}
 use Rattle.market.specs.declared.Rules.{Rules}
 use Rattle.market.specs.declared.Asset.{Asset}
 use Rattle.market.specs.declared.Asset.the-variants.{Money, Pieces}
 use Rattle.market.specs.Day.{Day, blockedAt, columnsOf, freeAt, noOrder, noTurnover, orderAt}
-use Rattle.market.specs.Day.{cell, positions}
-use Rattle.market.specs.View.{view}
+use Rattle.market.specs.Day.{cell, positions, totalLimit}
 use Rattle.market.specs.Needs.{needAt}
-use Rattle.market.specs.Sound.{needsAt}
+use Rattle.market.specs.Sound.{needsAt, sound}
 use Rattle.market.specs.TradeList.{written}
 use Rattle.market.specs.Answers.{Result, isDone}
 use Rattle.market.specs.Matching.{fits}
 use Rattle.market.specs.Calls.{Call, linked}
 use Rattle.market.specs.Questions.{firstNo}
 use Rattle.market.specs.Linked.{Group, groupResult, members, passed, stopped}
-use Rattle.market.specs.Step.{Reply, allQuestions, answerBy, effect, result, step}
+use Rattle.market.specs.Step.{allQuestions, answerBy, effect, result, step}
 use Rattle.market.specs.Opening.{opened, opening}
 use Rattle.market.proofs.Lists.{All, all-at, same-all}
 use Rattle.market.proofs.Totals.{zero-total}
-use Rattle.market.proofs.Needs.{isKept}
-use Rattle.market.proofs.Known.{RulesOk, is-kept}
+use Rattle.market.proofs.Known.{RulesOk}
 use Rattle.market.proofs.Matching.{prices-apart}
 use Rattle.market.proofs.Opening.{accepted}
-use Rattle.invariant.specs.Standing.{Held, KindOk}
-use Rattle.invariant.proofs.Entry.{kinds-priced}
-use Rattle.conservation.specs.Book.{Book, balances, emptyBook, feed, noBalance}
-use Rattle.conservation.specs.Statement.{Agrees, AllWhole, Demand3, Request, Whole, WholeBy, allShown, asOrder}
-use Rattle.conservation.specs.Statement.{bookAfter, bookNeeds, dayAfter}
-use Rattle.conservation.specs.OverStates.{AllServedWhole, Chain, Demand3OfStates, Served, bookServed, lastState}
-use Rattle.conservation.specs.OverStates.{replyOf}
-use Rattle.conservation.specs.SoundKept.{SoundKept, SoundReached}
+use Rattle.invariant.specs.Standing.{Held}
+use Rattle.conservation.specs.Book.{Book, balances, emptyBook, noBalance}
+use Rattle.conservation.specs.Statement.{Agrees, Whole, WholeBy, allShown, asOrder, bookNeeds}
+use Rattle.conservation.specs.SoundKept.{SoundKept}
 use Rattle.conservation.proofs.Balanced.{Balanced}
 use Rattle.conservation.proofs.Good.{Good}
 use Rattle.conservation.proofs.Linked.{GroupOk, members-ok}
@@ -49,7 +40,7 @@ use Rattle.conservation.proofs.Steps.{read-written, step-good}
 use Rattle.conservation.proofs.Counts.{result-counts, result-few, written-length}
 
 -- after an accepted opening
-opened-good : (r : Rules) → RulesOk r → Good (Unit {0}) r emptyBook (opened r)
+pub opened-good : (r : Rules) → RulesOk r → Good (Unit {0}) r emptyBook (opened r)
 unfolding emptyBook opened
 opened-good r ok = record {
   standing = record {
@@ -97,15 +88,15 @@ opened-good r ok = record {
     balanced Money = even (r .currencies)
     balanced Pieces = even (r .securities)
 
-opening-good : (r : Rules) → isDone ((opening r) .answer) ≡ true → Good (Unit {0}) r emptyBook ((opening r) .day)
-opening-good r e = let a = accepted r e in rw (a .day) (opened-good r (a .rules))
+pub opening-sound : (r : Rules) → isDone ((opening r) .answer) ≡ true → sound ((opening r) .day) ≡ true
+opening-sound r e = let a = accepted r e in rw (a .day) (good-sound emptyBook (opened r) (opened-good r (a .rules)))
 
 -- what a good day says to the reader
 shown-needs : (f : Order → ℕ) (w : List Order) → sumOf (λ o. f (asOrder o)) (allShown w) ≡ sumOf f w
 shown-needs f [] = refl
 shown-needs f (o ∷ w) = let r = shown-needs f w in omega arith
 
-agrees : {r : Rules} (b : Book) (d : Day) → Good (Unit {0}) r b d → Agrees r b d
+pub agrees : {r : Rules} (b : Book) (d : Day) → Good (Unit {0}) r b d → Agrees r b d
 agrees {r} b d g = record {
   rules = sym rules;
   balanced = λ x p c hp hc. (g .agree .balanced x) .agree p c (rw (← rules) hp) (known x c hc);
@@ -114,11 +105,11 @@ agrees {r} b d g = record {
   waiting = sym (g .waiting);
   turnover = sym (g .agree .turnover);
   phase = sym (g .agree .phase);
-  uncrossed = λ h i j hi hj x y s.
+  uncrossed = λ h i j hi hj ki kj x y s.
       prices-apart (orderAt (d .waiting) i) (orderAt (d .waiting) j)
       (all-at (λ x. fits (orderAt (d .waiting) i) x ≡ false) noOrder (d .waiting) j
       (all-at (λ o. All (λ x. fits o x ≡ false) (d .waiting)) noOrder (d .waiting) i (g .uncrossed tt h) hi) hj)
-      (kept-at i h hi) (kept-at j h hj) x y s;
+      ki kj x y s;
 }
   where
     rules : r ≡ d .rules
@@ -132,14 +123,8 @@ agrees {r} b d g = record {
         unfold bookNeeds in
         (rw (rules, g .agree .turnover, g .waiting) (shown-needs (needAt x (d .rules) (d .turnover) j) (d .waiting)))
 
-    kept-at : (i : ℕ) → d .phase ≡ Open → i < length (d .waiting) → isKept ((orderAt (d .waiting) i) .kind) ≡ true
-    kept-at i h hi =
-        let o = orderAt (d .waiting) i in
-        is-kept (d .rules) (o .security) (o .kind)
-        (kinds-priced d h o (all-at (KindOk d) noOrder (d .waiting) i (g .standing .kinds) hi))
-
 -- every group filled its members whole or changed nothing
-step-whole : {U : Type 0} {r : Rules} (b : Book) (d : Day) (c : Call) (l : List ℕ) → Good U r b d
+pub step-whole : {U : Type 0} {r : Rules} (b : Book) (d : Day) (c : Call) (l : List ℕ) → Good U r b d
     → Whole d l c (step d l c)
 unfolding step result effect
 step-whole {U} {r} b d c l g p n ms e =
@@ -157,64 +142,6 @@ step-whole {U} {r} b d c l g p n ms e =
         WholeBy d l p (take n ms) (x .answer) (x .day) (written (x .trades) l)
     go zero = group (members 1 d p (take n ms)) (members-ok (take n ms) 1 d p b g)
     go (suc k) = (refl, refl)
-
--- the list of calls, one after another
-run-good : {U : Type 0} {r : Rules} (qs : List Request) (b : Book) (d : Day) → Good U r b d
-    → Good U r (bookAfter r b d qs) (dayAfter d qs)
-unfolding bookAfter dayAfter
-run-good [] b d g = g
-run-good (q ∷ qs) b d g = run-good qs _ _ (step-good b d (q .call) (q .list) g)
-
-run-whole : {U : Type 0} {r : Rules} (qs : List Request) (b : Book) (d : Day) → Good U r b d → AllWhole d qs
-run-whole [] b d g = tt
-run-whole (q ∷ qs) b d g =
-    (step-whole b d (q .call) (q .list) g, run-whole qs _ _ (step-good b d (q .call) (q .list) g))
-
-pub demand3 : Demand3
-demand3 r e qs =
-    let g = opening-good r e in
-    record {
-      agrees = agrees _ _ (run-good qs emptyBook ((opening r) .day) g);
-      groups = run-whole qs emptyBook ((opening r) .day) g;
-    }
-
-pub sound-reached : SoundReached
-sound-reached r e qs = good-sound _ _ (run-good qs emptyBook ((opening r) .day) (opening-good r e))
-
--- the same over States: each contract says what the definition does
-same-reply : {y : Reply} {a : Answer} {d : Day} {l : List ℕ} → a ≡ y .answer → d ≡ y .day → l ≡ y .list
-    → y ≡ record { answer = a; day = d; list = l }
-same-reply p q t = rw (p, q, t)
-
-record ServedGood (r : Rules) (b : Book) (s : State) (xs : List Served) : Type 0 where
-  good : Good (Unit {0}) r (bookServed r b xs) (view (lastState s xs))
-  whole : AllServedWhole s xs
-
-served-good : {r : Rules} (xs : List Served) (b : Book) (s : State) → Good (Unit {0}) r b (view s) → Chain s xs
-    → ServedGood r b s xs
-unfolding bookServed
-served-good [] b s g h = record { good = g; whole = tt }
-served-good {r} (x ∷ xs) b s g h =
-    let m = h .0 .meets in
-    let same : step (view s) (x .lent) (x .call) ≡ replyOf x = same-reply (m .answer) (m .state) (m .list) in
-    let rest = served-good xs (feed r b (x .call) (x .outcome .answer) (x .list)) (x .outcome .state)
-    (subst (λ (y : Reply). Good (Unit {0}) r (feed r b (x .call) (y .answer) (y .list)) (y .day)) same
-    (step-good b (view s) (x .call) (x .lent) g)) (h .1) in
-    record {
-      good = rest .good;
-      whole = (
-        subst (λ (y : Reply). Whole (view s) (x .lent) (x .call) y) same
-            (step-whole b (view s) (x .call) (x .lent) g),
-        rest .whole,
-      );
-    }
-
-pub demand3-of-states : Demand3OfStates
-demand3-of-states r o h e xs c =
-    let done : isDone ((opening r) .answer) ≡ true = subst (λ (a : Answer). isDone a ≡ true) (h .answer) e in
-    let g = subst (λ (d : Day). Good (Unit {0}) r emptyBook d) (sym (h .state)) (opening-good r done) in
-    let s = served-good xs emptyBook (o .state) g c in
-    record { agrees = agrees _ _ (s .good); groups = s .whole }
 
 -- every call on a sound day leaves a sound day
 pub sound-kept : SoundKept

@@ -6,7 +6,6 @@ use mathlib.Core.List.{List, []}
 use mathlib.Core.Bool.{Bool, true, false, cond}
 use lib.ListN.{length, length-append}
 use borrow.Author.Tests.{ltb-true, ltb-false}
-use Rattle.market.specs.declared.Kind.{Kind}
 use Rattle.market.specs.declared.Order.{Order}
 use Rattle.market.specs.declared.Phase.{Phase}
 use Rattle.market.specs.declared.Phase.the-variants.{Closed, Closing, Collecting, Open}
@@ -25,8 +24,9 @@ use Rattle.market.specs.Pairing.{Paired, Terms, followed, pairOne, pairedOff, p
 use Rattle.market.proofs.Lists.{all-at}
 use Rattle.market.proofs.Waiting.{Apart, apart-at, apart-takeOff, at-takeOff, length-takeOff}
 use Rattle.market.proofs.Codes.{numbered-apart}
-use Rattle.market.proofs.Pairs.{Meeting, meet-apart, pairs-all}
-use Rattle.conservation.specs.Book.{Book, Waiting, countIn, feedTrade, feedTrades, takeLots}
+use Rattle.market.proofs.Matching.{uncrossed-both}
+use Rattle.market.proofs.Pairs.{Meeting, Stands, stand-apart, pairs-all}
+use Rattle.conservation.specs.Book.{Book, Waiting, countIn, feedTrade, feedTrades, takeLots, tradeMoved}
 use Rattle.conservation.specs.Statement.{allShown}
 use Rattle.conservation.proofs.Listed.{feedTrades-append, takeLots-comm, takeLots-is}
 use Rattle.invariant.proofs.Pairing.{Fair, FairTo, pair-buy, pair-needs, pair-one, pair-sell, pair-standing, pair-two}
@@ -66,10 +66,9 @@ uncounted Collecting r t l h = refl
 uncounted Closing r t l h = refl
 uncounted Closed r t l h = refl
 
--- one pair, in a phase other than open
-module _ {U : Type 0} {r : Rules} (b : Book) (d : Day) (g : Good U r b d) (shut : d .phase ≡ Open → ⊥) (s : ℕ)
-    (k : Kind) (p i j n : ℕ)
-    (buys : Meeting Buy s k (d .waiting) i) (sells : Meeting Sell s k (d .waiting) j)
+-- one pair, which doesn't count: the book's Q and T are u′ after it
+module _ {U : Type 0} {r : Rules} (b : Book) (d : Day) (g : Good U r b d) (u′ : List Turnover) (same : u′ ≡ d .turnover)
+    (s p i j n : ℕ) (buys : Stands Buy s (d .waiting) i) (sells : Stands Sell s (d .waiting) j)
     (price : p ≤ limitOf (d .turnover) (orderAt (d .waiting) i))
     (ni : n ≤ lotsAt d i) (nj : n ≤ lotsAt d j) where
   abbrev buy : Order
@@ -78,25 +77,23 @@ module _ {U : Type 0} {r : Rules} (b : Book) (d : Day) (g : Good U r b d) (shut 
   abbrev sell : Order
   sell = orderAt (d .waiting) j
 
-  pub pair-good : Good U r (feedTrade r b (tradeOf (d .rules) buy sell p n)) (pairedOff d i j p n)
-  unfolding pairedOff settle feedTrade
+  pub pair-good : Good U r (tradeMoved r b u′ (tradeOf (d .rules) buy sell p n)) (pairedOff d i j p n)
+  unfolding pairedOff settle
   pair-good =
       let st = g .standing in
       record {
-        standing = pair-standing d st s k p i j n buys sells price ni nj;
+        standing = pair-standing d st s p i j n buys sells price ni nj;
         agree =
-            trade-agree [] (takeBoth (d .waiting) i j n) b d buy sell p n _ (d .turnover) (g .agree) (st .backed)
-            (pair-buy d st s k p i j n buys sells price ni nj) (pair-sell d st s k p i j n buys sells price ni nj)
-            (buys .side) (sells .side) (pair-one d st s k p i j n buys sells price ni nj) price ni nj
-            (λ y q. omega (arith, pair-needs d st s k p i j n buys sells price ni nj y q))
-            (uncounted (b .phase) r (tradeOf (d .rules) buy sell p n) (b .turnover)
-            (λ h. shut (sym (g .agree .phase) ∙ h)) ∙ g .agree .turnover);
+            trade-agree [] (takeBoth (d .waiting) i j n) b d buy sell p n u′ (d .turnover) (g .agree) (st .backed)
+            (pair-buy d st s p i j n buys sells price ni nj) (pair-sell d st s p i j n buys sells price ni nj)
+            (buys .side) (sells .side) (pair-one d st s p i j n buys sells price ni nj) price ni nj
+            (λ y q. omega (arith, pair-needs d st s p i j n buys sells price ni nj y q)) same;
         waiting =
             ap (λ (l : List Waiting).
             takeLots (sell .participant) (sell .code) n (takeLots (buy .participant) (buy .code) n l)) (g .waiting)
             ∙ lots-both (d .waiting) i j n (numbered-apart (given d) (codesOf d) (d .waiting) (st .codes))
-            (buys .inside) (sells .inside) (meet-apart s k (d .waiting) i j buys sells);
-        uncrossed = λ u h. absurd (shut h);
+            (buys .inside) (sells .inside) (stand-apart s (d .waiting) i j buys sells);
+        uncrossed = λ u h. uncrossed-both (d .waiting) i j n (g .uncrossed u h);
       }
 
 -- what a pairing leaves
@@ -122,12 +119,16 @@ pairs-ok U r s t d = pairs-all s t (Pairing U r s t) (λ d b g shut fair. unpair
         (rest : Day → Paired) → Pairing U r s t (pairedOff d i j (t .price) n) (rest (pairedOff d i j (t .price) n))
         → Pairing U r s t d (followed (pairOne d i j (t .price) n) rest)
     one d i j mb ms rest again b g shut fair =
-        unfold pairedOff settle feedTrades in
+        unfold pairedOff settle feedTrade feedTrades in
         (let n = min (lotsAt d i) (lotsAt d j) in
-        let price = all-at (FairTo s t (d .turnover)) noOrder (d .waiting) i fair (mb .inside) (mb .security)
+        let mi = mb .stands in
+        let mj = ms .stands in
+        let price = all-at (FairTo s t (d .turnover)) noOrder (d .waiting) i fair (mi .inside) (mi .security)
         (mb .reach) in
-        let both = pair-two d (g .standing) s (t .limit) (t .price) i j n mb ms price (omega arith) (omega arith) in
-        let good = pair-good b d g shut s (t .limit) (t .price) i j n mb ms price (omega arith) (omega arith) in
+        let both = pair-two d (g .standing) s (t .price) i j n mi mj price (omega arith) (omega arith) in
+        let same = uncounted (b .phase) r (tradeOf (d .rules) (orderAt (d .waiting) i) (orderAt (d .waiting) j) (t .price) n)
+        (b .turnover) (λ h. shut (sym (g .agree .phase) ∙ h)) ∙ g .agree .turnover in
+        let good = pair-good b d g _ same s (t .price) i j n mi mj price (omega arith) (omega arith) in
         let x = again _ good shut (both .all (FairTo s t (d .turnover)) (λ o k l. k) fair) in
         record { good = x .good; phase = x .phase; count = omega (arith, x .count, both .shorter (omega arith)) })
 

@@ -20,7 +20,10 @@ use Rattle.market.specs.Entry.{admitted, placed}
 use Rattle.market.specs.Pairing.{pairsFrom}
 use Rattle.market.specs.Closing.{closingTerms}
 use Rattle.market.specs.Auction.{auctionTerms}
+use Rattle.market.specs.Matching.{fits}
 use Rattle.market.proofs.Logic.{never}
+use Rattle.market.proofs.Lists.{All}
+use Rattle.market.proofs.Matching.{uncrossed-append}
 use Rattle.market.proofs.Questions.{all-yes, yes}
 use Rattle.market.proofs.Phases.{closing-phase}
 use Rattle.invariant.specs.Standing.{Placeable}
@@ -33,11 +36,12 @@ use Rattle.conservation.proofs.Good.{Good, relisted}
 use Rattle.conservation.proofs.Blocks.{block-agree}
 use Rattle.conservation.proofs.Pairs.{PairedOk, pairsFrom-ok}
 
--- an order that only waits, in a phase other than open
-pub placed-good : {U : Type 0} {r : Rules} (b : Book) (d : Day) (o : Order) → Good U r b d → (d .phase ≡ Open → ⊥)
+-- an order that only waits, while open one that fits none of those waiting
+pub placed-good : {U : Type 0} {r : Rules} (b : Book) (d : Day) (o : Order) → Good U r b d
+    → (d .phase ≡ Open → All (λ x. fits o x ≡ false) (d .waiting))
     → Placeable d o → Good U r (withOrders b (b .waiting ++ (shown o ∷ []))) ((placed d o) .day)
 unfolding placed admitted blockFor
-placed-good b d o g shut a =
+placed-good b d o g none a =
     let v = b .waiting ++ (shown o ∷ []) in
     record {
       standing = placed-standing d o (g .standing) a;
@@ -45,7 +49,7 @@ placed-good b d o g shut a =
           relisted v (d .waiting ++ (o ∷ [])) (withOrders b v) (admitted d o)
           (block-agree v b d o (a .order .participant) (a .order .security) [] (g .standing .backed) (g .agree) (a .covers));
       waiting = rw (g .waiting) (sym (shown-append (d .waiting) (o ∷ [])));
-      uncrossed = λ u h. absurd (shut h);
+      uncrossed = λ u h. uncrossed-append (d .waiting) o (g .uncrossed u h) (none h);
     }
 
 -- a phase that passes a test which open fails
@@ -60,7 +64,7 @@ unfolding closingQuestions
 closingOrder-good b d p x s n g e =
     let qs = closingQuestions d p x s n in
     placed-good b d (closingOf d p x s n) g
-    (not-open isClosing (d .phase) refl (ap isClosing (closing-phase (d .phase) (yes 6 qs (all-yes qs tt e)))))
+    (λ h. absurd (not-open isClosing (d .phase) refl (ap isClosing (closing-phase (d .phase) (yes 6 qs (all-yes qs tt e)))) h))
     (closing-placeable d p x s n e)
 
 -- a kept order while collecting
@@ -68,7 +72,8 @@ pub collected-good : {U : Type 0} {r : Rules} (b : Book) (d : Day) (p : ℕ) (m 
     → d .phase ≡ Collecting → firstNo (orderQuestions d p m (orderAccess Kept) Kept) ≡ 0
     → Good U r (withOrders b (b .waiting ++ (shown (entryOf d p m) ∷ []))) ((placed d (entryOf d p m)) .day)
 collected-good b d p m g phase e =
-    placed-good b d (entryOf d p m) g (not-open isCollecting (d .phase) refl (ap isCollecting phase)) (kept-placeable d p m e)
+    placed-good b d (entryOf d p m) g
+    (λ h. absurd (not-open isCollecting (d .phase) refl (ap isCollecting phase) h)) (kept-placeable d p m e)
 
 -- the pairing at the session's end
 pub closing-paired : {U : Type 0} {r : Rules} (b : Book) (d : Day) → Good U r b d → d .phase ≡ Closing

@@ -28,7 +28,8 @@ pub const MAX_TEXT: usize = 65536;
 pub const ROOM: usize = commands::ROOM;
 
 // A run of a day file: the state, the place where the text goes on and the number of its line there, how much of the
-// buffer is filled, and whether all is printed.
+// buffer is filled, and whether all is printed. Of the state its day alone is read: no line says a date or a deal, so its
+// records are the opening's to the end.
 pub struct Run {
     pub state: State,
     pub at: usize,

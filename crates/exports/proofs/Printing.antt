@@ -2,15 +2,20 @@
 use Prim.Native.Nat.{ℕ, _+_, _≤_, _<_}
 use native.Mathlib.Omega.{arith}
 use mathlib.Core.Path.{_≡_, refl, _∙_}
-use mathlib.Core.List.{List, _++_}
-use mathlib.Core.Bool.{false}
+use mathlib.Core.List.{List, [], _++_}
+use mathlib.Core.Bool.{true, false}
 use lib.ListN.{drop, length}
 use Rattle.market.specs.declared.Answer.{Answer}
+use Rattle.market.specs.declared.Rules.{Rules}
 use Rattle.market.specs.declared.State.{State}
 use Rattle.market.specs.Answers.{numbersOf}
-use Rattle.market.specs.View.{Sized, view}
+use Rattle.market.specs.Day.{Day}
+use Rattle.market.specs.View.{view}
 use Rattle.market.specs.Parts.{bookOf, rulesOf}
-use Rattle.market.proofs.Logic.{never}
+use Rattle.market.specs.Sound.{sound}
+use Rattle.market.specs.Ledger.{ledgerSound, whole}
+use Rattle.market.proofs.Logic.{both, never}
+use Rattle.market.proofs.Deals.{records-none, records-sound}
 use Rattle.reading.specs.declared.Reading.{Reading}
 use Rattle.reading.specs.Commands.{Reads}
 use Rattle.printing.specs.Buffer.{Puts}
@@ -23,7 +28,7 @@ use Rattle.commands.specs.Stand.{Onward, goesOn, room}
 use Rattle.commands.proofs.Placing.{command-next, onward-none, onward-then}
 use Rattle.dayfile.specs.declared.Run.{Run}
 use Rattle.dayfile.specs.Run.{Begins, Prints, left}
-use Rattle.dayfile.proofs.Resuming.{fills-over, starts}
+use Rattle.dayfile.proofs.Resuming.{fills-over}
 use Rattle.dayfile.proofs.Whole.{begins-room, begins-then, day-then, prints-over, rest-then}
 use Rattle.exports.proofs.PublicCalls.{Follows}
 
@@ -40,24 +45,34 @@ standOf r = record {
   filled = r .filled;
 }
 
--- any number of commands further, none included, under the same rules
-pub record Further (text : List ℕ) (r : Run) (before : List ℕ) (r′ : Run) (after : List ℕ) : Type 0 where
-  pub rules : rulesOf (r .state) ≡ rulesOf (r′ .state)
-  pub onward :
-      Onward text (rulesOf (r .state)) (r .state .money) (r .state .pieces) (standOf r) before (r′ .state .money)
-      (r′ .state .pieces) (standOf r′) after
+-- any number of commands further than where the parts of a day stood, none included, under the same rules; the state is
+-- sound, its records too
+pub record FurtherBy (text : List ℕ) (x : Rules) (m k : List ℕ) (from : Stand) (before : List ℕ) (r : Run)
+    (after : List ℕ) : Type 0 where
+  pub rules : x ≡ rulesOf (r .state)
+  pub sound : ledgerSound (whole (r .state)) ≡ true
+  pub onward : Onward text x m k from before (r .state .money) (r .state .pieces) (standOf r) after
+
+abbrev pub Further : (text : List ℕ) → Run → (before : List ℕ) → Run → (after : List ℕ) → Type 0
+Further text r before r′ after =
+    FurtherBy text (rulesOf (r .state)) (r .state .money) (r .state .pieces) (standOf r) before r′ after
 
 -- from where a run was begun
-pub further-none : {text before after : List ℕ} {r : Run} → Begins text before r after → r .over ≡ false
-    → Sized (view (r .state)) →
-    let q = runOf (r .state) (r .at) (r .line) (r .filled) in
-    Further text q after q after
-further-none begins still z = record {
+pub further-none : {text before : List ℕ} {s : State} {at line filled : ℕ} → ledgerSound (whole s) ≡ true →
+    let q = runOf s at line filled in
+    stand.Going text (rulesOf s) (s .money) (s .pieces) (standOf q) → filled ≤ length before → Further text q before q before
+further-none sound going filled = record {
   rules = refl;
-  onward = onward-none _ _ _ _ _ _ (starts refl refl z (begins .going still)) (begins .filled);
+  sound = sound;
+  onward = onward-none _ _ _ _ _ _ going filled;
 }
 
-module _ {text before out : List ℕ} {r q : Run} (f : Further text r before q out) where
+-- a sound day's ledger on date 0 with no deal open
+pub undealt-sound : (d : Day) → sound d ≡ true → ledgerSound (record { day = d; date = 0; deals = [] }) ≡ true
+unfolding ledgerSound
+undealt-sound d e = both e (records-sound (d .rules) 0 [] (records-none (d .rules) 0 (omega arith)))
+
+module _ {text before out m k : List ℕ} {x : Rules} {from : Stand} {q : Run} (f : FurtherBy text x m k from before q out) where
   pub going : stand.Going text (rulesOf (q .state)) (q .state .money) (q .state .pieces) (standOf q)
   going = rw (← f .rules) (f .onward .going)
 
@@ -65,9 +80,10 @@ module _ {text before out : List ℕ} {r q : Run} (f : Further text r before q o
       → q .filled + room ≤ length out → Reads text (q .at) c
       → Follows (q .state) (c .says) (c .members) l s a l′
       → Puts out (q .filled) (answerLine (q .line) a ++ flatLines ((numbersOf a) .trades) l′) after end
-      → Further text r before (runOf s (c .next) (q .line + c .lines) end) after
+      → FurtherBy text x m k from before (runOf s (c .next) (q .line + c .lines) end) after
   further-next c more fits reads follows puts = record {
     rules = f .rules ∙ follows .rules;
+    sound = follows .sound;
     onward =
         onward-then (f .onward)
         (rw (f .rules) (command-next _ _ _ _ _ _ _ _ _ _ _ c _ _ going more fits reads (follows .does) puts));

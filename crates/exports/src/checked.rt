@@ -49,6 +49,9 @@ pub fn whole_day(text: &[u8], out: &mut [u8]) -> usize
     }
     let mut trades = [0u64; 1088];
     let mut s = r.state;
+    // A run tells of its day alone, and the public call asks for sound records: those of an opening on day 0.
+    s.records.date = 0;
+    s.records.count = 0;
     let mut at = r.at;
     let mut line = r.line;
     let mut filled = r.filled;

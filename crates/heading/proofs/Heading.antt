@@ -11,16 +11,21 @@ use Rattle.market.specs.declared.Outcome.{Outcome}
 use Rattle.market.specs.declared.Rules.{Rules}
 use Rattle.market.specs.Limits.{maxSecurities}
 use Rattle.market.specs.Tests.{_=?_}
-use Rattle.market.specs.Day.{row}
+use Rattle.market.specs.Day.{Day, row}
 use Rattle.market.specs.Sound.{countsSound, rowSound, rulesSound, sound}
 use Rattle.market.specs.Answers.{isDone, numbersOf}
 use Rattle.market.specs.Questions.{firstNo}
-use Rattle.market.specs.Opening.{firstWrong, opening, openingBy, openingQuestions, wrongLine}
+use Rattle.market.specs.Opening.{firstWrong, opened, opening, wrongLine}
+use Rattle.market.specs.View.{view}
+use Rattle.market.specs.Ledger.{Ledger}
+use Rattle.market.specs.ActStep.{ledgerQuestions, openLedger, openLedgerBy}
 use Rattle.market.specs.Contract.{Opens}
 use Rattle.market.proofs.Logic.{and-true, never, within-low}
 use Rattle.market.proofs.Opening.{accepted}
-use Rattle.conservation.specs.Statement.{dayAfter}
-use Rattle.conservation.proofs.Demand.{sound-reached}
+use Rattle.market.proofs.Acts.{opening-plain}
+use Rattle.conservation.specs.Book.{emptyBook}
+use Rattle.conservation.proofs.Demand.{opened-good}
+use Rattle.conservation.proofs.Sound.{good-sound}
 use Rattle.lines.specs.declared.Line.{Line}
 use Rattle.lines.specs.declared.Line.the-variants as line
 use Rattle.reading.specs.declared.Reading.{Reading}
@@ -42,20 +47,30 @@ wrong-within r (suc n) s = go (rowSound (r .currencies) (row r s)) (wrong-within
     go true h = omega arith
     go false h = omega arith
 
-opening-place : (r : Rules) → (numbersOf ((opening r) .answer)) .place ≤ r .securities
-unfolding opening
-opening-place r = go (firstNo (openingQuestions r))
+opening-place : (r : Rules) (date : ℕ) → (numbersOf ((openLedger r date) .answer)) .place ≤ r .securities
+unfolding openLedger
+opening-place r date = go (firstNo (ledgerQuestions r date))
   where
     placed : (b : Bool) → cond b (wrongLine r) 0 ≤ r .securities
     placed true = omega (arith, wrong-within r (r .securities) 0)
     placed false = omega arith
 
-    go : (n : ℕ) → (numbersOf ((openingBy r n) .answer)) .place ≤ r .securities
+    go : (n : ℕ) → (numbersOf ((openLedgerBy r date n) .answer)) .place ≤ r .securities
     go zero = omega arith
     go (suc n) = placed (suc n =? 18)
 
-pub place-small : {r : Rules} {o : Outcome} → Opens r o → (numbersOf (o .answer)) .place ≤ r .securities
-place-small {r} opens = rw (opens .answer) (opening-place r)
+pub place-small : {r : Rules} {date : ℕ} {o : Outcome} → Opens r date o → (numbersOf (o .answer)) .place ≤ r .securities
+place-small {r} {date} opens = rw (opens .answer) (opening-place r date)
+
+-- the opening on day 0 is that of a day
+pub record OpensPlain (r : Rules) (o : Outcome) : Type 0 where
+  pub answer : o .answer ≡ (opening r) .answer
+  pub state : view (o .state) ≡ (opening r) .day
+
+pub opens-plain : {r : Rules} {o : Outcome} → Opens r 0 o → OpensPlain r o
+opens-plain {r} h =
+    let p = opening-plain r 0 refl in
+    record { answer = h .answer ∙ p .answer; state = ap (λ (l : Ledger). l .day) (h .state) ∙ p .day }
 
 -- an accepted opening has a security, and its day is sound
 opening-some : (r : Rules) → isDone ((opening r) .answer) ≡ true → 0 < r .securities
@@ -65,8 +80,9 @@ opening-some r done =
     within-low 1 maxSecurities (r .securities) ((and-true ((and-true (counts .0)) .1)) .1)
 
 opening-sound : (r : Rules) → isDone ((opening r) .answer) ≡ true → sound ((opening r) .day) ≡ true
-unfolding dayAfter
-opening-sound r done = sound-reached r done []
+opening-sound r done =
+    let h = accepted r done in
+    subst (λ (d : Day). sound d ≡ true) (sym (h .day)) (good-sound emptyBook (opened r) (opened-good r (h .rules)))
 
 abbrev headingTag : ℕ
 headingTag = 1
@@ -124,7 +140,10 @@ module _ (p c : ℕ) {text : List ℕ} {from s : ℕ} {lines : Securities} (l : 
   abbrev rules : Rules
   rules = record { participants = p; currencies = c; securities = s; table = lines .table; rate = 0 }
 
-  module _ (none : lines .fault ≡ 0) {o : Outcome} (opens : Opens rules o) where
+  module _ (none : lines .fault ≡ 0) {o : Outcome} (dated : Opens rules 0 o) where
+    opens : OpensPlain rules o
+    opens = opens-plain dated
+
     pub lines-open : {place : ℕ} → place ≡ (numbersOf (o .answer)) .place
         → ReadsLines text from p c s (record { outcome = o; line = place + 1; next = s + 2; at = lines .next })
     lines-open {place} same =

@@ -101,7 +101,7 @@ pub fn place_of(answer: Answer) -> u64
     }
 }
 
-// The heading whose `H` line says this, with its `S` lines from here on, and the day that it opens. A day file has no rate.
+// The heading whose `H` line says this, with its `S` lines from here on, and the day that it opens. A day file has no rate and no date.
 fn opened_with(
     text: &[u8],
     from: usize,
@@ -117,13 +117,16 @@ fn opened_with(
         return wrong_heading(lines.fault);
     }
     let table = lines.table;
-    let outcome = opening::opening(Rules {
-        participants,
-        currencies,
-        securities,
-        table,
-        rate: 0,
-    });
+    let outcome = opening::opening(
+        Rules {
+            participants,
+            currencies,
+            securities,
+            table,
+            rate: 0,
+        },
+        0,
+    );
     let answer = outcome.answer;
     Headed {
         outcome,

@@ -29,7 +29,7 @@ use denote.Exit.{yes}
 use Rattle.market.specs.declared.State.{State}
 use Rattle.market.specs.declared.Side.{Side}
 use Rattle.market.specs.declared.TimeInForce.{TimeInForce}
-use Rattle.market.specs.Calls.{Call, order}
+use Rattle.market.specs.Acts.{Act, order}
 use Rattle.market.proofs.State as S
 use Rattle.market.proofs.State.Laws as S′
 use Rattle.market.proofs.Side as D
@@ -51,7 +51,7 @@ Rest = ℕ × (Side × (ℕ × (ℕ × (ℕ × (TimeInForce × (RefT (List ℕ) 
 abbrev pub trades : Rest → RefT (List ℕ)
 trades x = x .1 .1 .1 .1 .1 .1 .0
 
-abbrev pub call : Rest → Call
+abbrev pub call : Rest → Act
 call x = order (x .0) (record { side = x .1 .0; security = x .1 .1 .0; price = x .1 .1 .1 .0; lots = x .1 .1 .1 .1 .0 }) (x .1 .1 .1 .1 .1 .0)
 
 -- what is bound of them at exit: the last list

@@ -4,7 +4,7 @@ use market::Outcome;
 use market::Side;
 use market::State;
 use market::TimeInForce;
-ghost use Rattle.market.specs.Calls.{order};
+ghost use Rattle.market.specs.Acts.{order};
 ghost use Rattle.market.specs.Contract.{Does};
 
 // The new state is written over the one lent; a refusal leaves it as it was.

@@ -1,13 +1,11 @@
 -- An accepted order: from a sound day into flight, and back to a sound day.
 use Prim.Native.Nat.{ℕ, _+_, _<_}
 use native.Mathlib.Omega.{arith}
-use mathlib.Core.Path.{_≡_, refl, ap, sym, subst}
+use mathlib.Core.Path.{_≡_, refl, sym, subst}
 use mathlib.Core.List.{List, [], _∷_, _++_, append-nil}
 use mathlib.Core.Bool.{Bool, true, false, cond}
 use lib.ListN.{length, length-append}
 use borrow.Author.Tests.{eqb-true, eqb-false, ltb-true}
-use Rattle.market.specs.declared.Kind.{Kind}
-use Rattle.market.specs.declared.Kind.the-variants as kind
 use Rattle.market.specs.declared.Ticket.{Ticket}
 use Rattle.market.specs.declared.Access.{Access}
 use Rattle.market.specs.declared.Order.{Order}
@@ -20,42 +18,36 @@ use Rattle.market.specs.Limits.{maxLots, maxWaiting}
 use Rattle.market.specs.Tests.{_=?_}
 use Rattle.market.specs.declared.Rules.{Rules}
 use Rattle.market.specs.declared.Asset.{Asset}
-use Rattle.market.specs.Day.{Day, row, turnoverAt, withLots, withMoney, withPieces, withWaiting}
+use Rattle.market.specs.Day.{Day, noTurnover, row, turnoverAt, withLots, withMoney, withPieces, withWaiting}
 use Rattle.market.specs.Codes.{codesOf, given}
 use Rattle.market.specs.Needs.{needAt, only, piecesOf}
 use Rattle.market.specs.Positions.{blockFor, releaseFor}
-use Rattle.market.specs.Sound.{isClosing, keptIn, kindSound}
+use Rattle.market.specs.Sound.{kindSound}
 use Rattle.market.specs.Calls.{entryOf}
 use Rattle.market.specs.Questions.{firstNo, orderQuestions}
 use Rattle.market.specs.Entry.{admitted, finished, leftWaiting}
-use Rattle.market.proofs.Logic.{and-true, both, never, within-high}
+use Rattle.market.proofs.Logic.{within-high}
 use Rattle.market.proofs.Lists.{All, all-append, all-map, sum-append}
 use Rattle.market.proofs.Needs.{need-none}
 use Rattle.market.proofs.Questions.{all-yes, yes}
-use Rattle.market.proofs.Known.{KeptOk, OrderOk}
+use Rattle.market.proofs.Known.{OrderOk, kept-open, open-priced}
 use Rattle.market.proofs.Turnovers.{TurnoverOk, turnover-room, turnover-spent}
 use Rattle.market.proofs.Codes.{codesOk-next, given-next, numbered-drop, numbered-enter}
 use Rattle.invariant.specs.Standing.{Backed, InFlight, KindOk, PricedOk, Standing}
 use Rattle.invariant.proofs.Backed.{block-backed, release-backed, relist}
 
--- while open, kept orders with good prices wait, and no others
+-- while open, what waits is kept or an offer, at a good price, and no turnover is asked
 pub kinds-priced : (d : Day) → d .phase ≡ Open → (o : Order) → KindOk d o → PricedOk (d .rules) o
-kinds-priced d e o h = go (o .kind) h
-  where
-    go : (k : Kind)
-        → kindSound (d .phase) (row (d .rules) (o .security)) (turnoverAt (d .turnover) (o .security)) k ≡ true
-        → KeptOk (d .rules) (o .security) k
-    go (kind.Kept p) h = (and-true h) .1
-    go kind.Closing h =
-        never (subst (λ (x : Phase). isClosing x ≡ true) e ((and-true h) .0))
+kinds-priced d e o h =
+    let l = row (d .rules) (o .security) in
+    let t = turnoverAt (d .turnover) (o .security) in
+    (open-priced l t (o .kind) (subst (λ (x : Phase). kindSound x l t (o .kind) ≡ true) e h)) .1 noTurnover
 
 pub priced-kinds : (d : Day) → d .phase ≡ Open → (o : Order) → PricedOk (d .rules) o → KindOk d o
-priced-kinds d e o h = go (o .kind) h
-  where
-    go : (k : Kind) → KeptOk (d .rules) (o .security) k
-        → kindSound (d .phase) (row (d .rules) (o .security)) (turnoverAt (d .turnover) (o .security)) k ≡ true
-    go (kind.Kept p) h = both (ap keptIn e) h
-    go kind.Closing h = absurd h
+priced-kinds d e o h =
+    let l = row (d .rules) (o .security) in
+    let t = turnoverAt (d .turnover) (o .security) in
+    subst (λ (x : Phase). kindSound x l t (o .kind) ≡ true) (sym e) ((open-priced l noTurnover (o .kind) h) .1 t)
 
 -- where an order's questions are all answered "yes" while open, it is in flight once it is admitted
 pub flight-starts : (d : Day) (p : ℕ) (m : Ticket) (a : Access) (k : TimeInForce) → Standing d → d .phase ≡ Open
@@ -131,7 +123,8 @@ module _ (d : Day) (e : Order) (f : InFlight d e) where
             orders = all-append (OrderOk (d .rules)) (d .waiting) (e ∷ []) (f .orders) (ok, tt);
             codes = f .codes;
             kinds = kinds-of (d .waiting ++ (e ∷ []))
-                (all-append (PricedOk (d .rules)) (d .waiting) (e ∷ []) (f .priced) (f .entryPriced, tt));
+                (all-append (PricedOk (d .rules)) (d .waiting) (e ∷ []) (f .priced)
+                (kept-open (d .rules) (e .security) noTurnover (e .kind) (f .entryPriced), tt));
             limit = f .limit;
             room = omega (arith, room some, length-append (d .waiting) (e ∷ []));
             turnoverLength = f .turnoverLength;

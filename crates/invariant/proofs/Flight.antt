@@ -13,7 +13,7 @@ use Rattle.market.specs.Limits.{maxPrice}
 use Rattle.market.specs.Tests.{sumOf}
 use Rattle.market.specs.declared.Rules.{Rules}
 use Rattle.market.specs.declared.Asset.{Asset}
-use Rattle.market.specs.Day.{Day, row, noOrder, orderAt, turnoverAt, withLots}
+use Rattle.market.specs.Day.{Day, noOrder, noTurnover, row, orderAt, turnoverAt, withLots}
 use Rattle.market.specs.Codes.{codesOf, given}
 use Rattle.market.specs.Needs.{limitOf, needAt, only, piecesOf}
 use Rattle.market.specs.Positions.{counted, settle}
@@ -22,15 +22,15 @@ use Rattle.market.specs.TradeList.{tradeOf}
 use Rattle.market.specs.Matching.{Filled, buyOf, fill, found, ifBuy, lotsAt, opposite, priceOf, reaches}
 use Rattle.market.specs.Matching.{sellOf, traded, withTrade}
 use Rattle.market.proofs.Logic.{never}
-use Rattle.market.proofs.Lists.{All, all-at, all-map, sum-all}
-use Rattle.market.proofs.Needs.{isKept, kept-limit, kept-need, need-falls, need-none}
-use Rattle.market.proofs.Known.{OrderOk, is-kept, kept-price}
+use Rattle.market.proofs.Lists.{All, all-at, sum-all}
+use Rattle.market.proofs.Needs.{kept-limit, need-falls, need-none, priced-need}
+use Rattle.market.proofs.Known.{OrderOk, is-kept, kept-open, kept-price, open-kept, open-priced}
 use Rattle.market.proofs.Turnovers.{TurnoverOk, turnover-trade}
 use Rattle.market.proofs.Waiting.{all-takeOff, filled-no, filled-yes, gone, length-takeOff-le, stays, sum-takeOff}
 use Rattle.market.proofs.Codes.{numbered-trade}
-use Rattle.market.proofs.Matching.{Chosen, Fit, fit, reach-buy}
+use Rattle.market.proofs.Matching.{Chosen, Fit, fit, reach-buy, reach-kept}
 use Rattle.market.proofs.Fill.{fill-all}
-use Rattle.invariant.specs.Standing.{Backed, InFlight, PricedOk, needsOf}
+use Rattle.invariant.specs.Standing.{Backed, EntryOk, InFlight, PricedOk, needsOf}
 use Rattle.invariant.proofs.Trade.{fallAt, trade-backed}
 
 pub less-ok : (r : Rules) (n : ℕ) (o : Order) → OrderOk r o → n < o .lots → OrderOk r (withLots o (o .lots - n))
@@ -62,8 +62,12 @@ module _ (d : Day) (e : Order) (f : InFlight d e) (i p n : ℕ) (some : 0 < e .l
   pub okO : OrderOk (d .rules) o
   okO = all-at (OrderOk (d .rules)) noOrder (d .waiting) i (f .orders) (chosen .0)
 
-  keptO : PricedOk (d .rules) o
-  keptO = all-at (PricedOk (d .rules)) noOrder (d .waiting) i (f .priced) (chosen .0)
+  -- an offer fits no entry
+  keptO : EntryOk (d .rules) o
+  keptO =
+      open-kept (d .rules) (o .security) noTurnover (o .kind)
+      (all-at (PricedOk (d .rules)) noOrder (d .waiting) i (f .priced) (chosen .0))
+      (reach-kept (e .side) (e .kind) (o .kind) (is-kept (d .rules) (e .security) (e .kind) (f .entryPriced)) (fitting .price))
 
   pub range : (1 ≤ p) × (p ≤ maxPrice)
   range =
@@ -85,20 +89,20 @@ module _ (d : Day) (e : Order) (f : InFlight d e) (i p n : ℕ) (some : 0 < e .l
       (omega (arith, chosen .2, reach-buy (e .kind) (o .kind) l, limit-e), omega (arith, limit-e, q .1))
   buyer-pays Sell l = (omega (arith, chosen .2, limit-o), omega (arith, chosen .2, limit-o, range .1))
 
-  -- all that waits or is pending after the trade is kept, so its needs don't depend on the turnover
-  after-kept : All (λ x. isKept (x .kind) ≡ true) ((rest ∷ []) ++ left)
-  after-kept = (
-    is-kept (d .rules) (e .security) (e .kind) (f .entryPriced),
-    all-takeOff (λ x. isKept (x .kind) ≡ true) (d .waiting) i n (λ x a h. a)
-        (all-map (PricedOk (d .rules)) (λ x. isKept (x .kind) ≡ true) (d .waiting)
-        (λ x. is-kept (d .rules) (x .security) (x .kind)) (f .priced)),
+  -- all that waits or is pending after the trade has a price, so its needs don't depend on the turnover
+  after-priced : All (PricedOk (d .rules)) ((rest ∷ []) ++ left)
+  after-priced = (
+    kept-open (d .rules) (e .security) noTurnover (e .kind) (f .entryPriced),
+    all-takeOff (PricedOk (d .rules)) (d .waiting) i n (λ x a h. a) (f .priced),
   )
 
   pub same-needs : (t′ : List Turnover) (y : Asset) (j : ℕ)
       → sumOf (needAt y (d .rules) t′ j) ((rest ∷ []) ++ left) ≡ needsOf y d ((rest ∷ []) ++ left) j
   same-needs t′ y j =
-      sum-all (λ x. isKept (x .kind) ≡ true) (needAt y (d .rules) t′ j) (needAt y (d .rules) (d .turnover) j)
-      ((rest ∷ []) ++ left) (λ x h. kept-need y (d .rules) (d .turnover) t′ j x h) after-kept
+      sum-all (PricedOk (d .rules)) (needAt y (d .rules) t′ j) (needAt y (d .rules) (d .turnover) j)
+      ((rest ∷ []) ++ left)
+      (λ x h. priced-need y (d .rules) (d .turnover) t′ j x ((open-priced (row (d .rules) (x .security)) noTurnover (x .kind) h) .0))
+      after-priced
 
   pub needs-left : (y : Asset) (j : ℕ)
       → needsOf y d ((rest ∷ []) ++ left) j + (fallAt y d e n j + fallAt y d o n j)
@@ -151,7 +155,7 @@ module _ (d : Day) (e : Order) (f : InFlight d e) (i p n : ℕ) (some : 0 < e .l
     participant = f .participant;
     security = f .security;
     top = omega (arith, f .top);
-    priced = all-takeOff (PricedOk (d .rules)) (d .waiting) i n (λ x a h. a) (f .priced);
+    priced = after-priced .1;
     entryPriced = f .entryPriced;
     limit = f .limit;
     room = omega (arith, length-takeOff-le (d .waiting) i n (chosen .0), f .room);

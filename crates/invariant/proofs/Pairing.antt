@@ -18,7 +18,7 @@ use Rattle.market.specs.Day.{Day, row, noOrder, orderAt, turnoverAt}
 use Rattle.market.specs.Codes.{codesOf, given}
 use Rattle.market.specs.Needs.{limitOf, needAt, priceOr}
 use Rattle.market.specs.Positions.{settle}
-use Rattle.market.specs.Sound.{keptIn, kindSound}
+use Rattle.market.specs.Sound.{isOpen, keptIn, kindSound}
 use Rattle.market.specs.Matching.{lotsAt, reaches}
 use Rattle.market.specs.Pairing.{Terms, pairedOff, takeBoth}
 use Rattle.market.specs.Closing.{closingTerms}
@@ -27,7 +27,7 @@ use Rattle.market.proofs.Logic.{and-true, never}
 use Rattle.market.proofs.Lists.{All, all-at, all-map}
 use Rattle.market.proofs.Needs.{need-falls, need-none}
 use Rattle.market.proofs.Known.{OrderOk}
-use Rattle.market.proofs.Pairs.{Both, Meeting, meet-apart, take-both}
+use Rattle.market.proofs.Pairs.{Both, Stands, stand-apart, take-both}
 use Rattle.invariant.specs.Standing.{KindOk, Standing, needsOf}
 use Rattle.invariant.proofs.Trade.{fallAt, trade-backed}
 use Rattle.invariant.proofs.Flight.{less-ok}
@@ -42,6 +42,7 @@ kinds-closing d e o h = go (o .kind) h
     go (kind.Kept p) h =
         never (subst (λ (x : Phase). keptIn x ≡ true) e ((and-true h) .0))
     go kind.Closing h = refl
+    go (kind.Offer rate term p) h = never (subst (λ (x : Phase). isOpen x ≡ true) e ((and-true h) .0))
 
 -- the buys that the terms let in can pay their price
 abbrev pub FairTo : ℕ → Terms → List Turnover → Order → Type 0
@@ -68,14 +69,15 @@ auction-fair d s = each (d .waiting)
     pays : (other : ℕ) (k : Kind) → reaches Sell (kind.Kept price) k ≡ true → price ≤ priceOr other k
     pays other (kind.Kept q) e = leb-true price q e
     pays other kind.Closing e = never e
+    pays other (kind.Offer rate term q) e = never e
 
     each : (w : List Order) → All (FairTo s (record { limit = kind.Kept price; price = price }) (d .turnover)) w
     each [] = tt
     each (o ∷ w) = (λ h e. pays _ (o .kind) e, each w)
 
 -- one pair, in any phase
-module _ (d : Day) (st : Standing d) (s : ℕ) (k : Kind) (p i j n : ℕ)
-    (buys : Meeting Buy s k (d .waiting) i) (sells : Meeting Sell s k (d .waiting) j)
+module _ (d : Day) (st : Standing d) (s p i j n : ℕ)
+    (buys : Stands Buy s (d .waiting) i) (sells : Stands Sell s (d .waiting) j)
     (price : p ≤ limitOf (d .turnover) (orderAt (d .waiting) i))
     (ni : n ≤ lotsAt d i) (nj : n ≤ lotsAt d j) where
   abbrev buy : Order
@@ -86,7 +88,7 @@ module _ (d : Day) (st : Standing d) (s : ℕ) (k : Kind) (p i j n : ℕ)
 
   pub pair-two : Both (d .waiting) i j n (takeBoth (d .waiting) i j n)
   pair-two =
-      take-both (d .waiting) i j n (buys .inside) (sells .inside) (meet-apart s k (d .waiting) i j buys sells)
+      take-both (d .waiting) i j n (buys .inside) (sells .inside) (stand-apart s (d .waiting) i j buys sells)
 
   pub pair-buy : OrderOk (d .rules) buy
   pair-buy = all-at (OrderOk (d .rules)) noOrder (d .waiting) i (st .orders) (buys .inside)

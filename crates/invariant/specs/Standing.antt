@@ -10,7 +10,7 @@ use Rattle.market.specs.Limits.{columns, maxLots, maxParticipants, maxSecuritie
 use Rattle.market.specs.Tests.{sumOf}
 use Rattle.market.specs.declared.Rules.{Rules}
 use Rattle.market.specs.declared.Asset.{Asset}
-use Rattle.market.specs.Day.{Day, columnsOf, row, cell, position, positions, totalLimit, turnoverAt}
+use Rattle.market.specs.Day.{Day, columnsOf, noTurnover, row, cell, position, positions, totalLimit, turnoverAt}
 use Rattle.market.specs.Codes.{arrivalOf, codeLeft, codesOf, given}
 use Rattle.market.specs.Needs.{needAt, only, piecesOf}
 use Rattle.market.specs.Positions.{totalAt}
@@ -45,9 +45,13 @@ abbrev pub KindOk : Day → Order → Type 0
 KindOk d o =
     kindSound (d .phase) (row (d .rules) (o .security)) (turnoverAt (d .turnover) (o .security)) (o .kind) ≡ true
 
--- an order is kept, at a good price
+-- an order may wait while open: it is kept, or an offer, at a good price; no turnover is asked
 abbrev pub PricedOk : Rules → Order → Type 0
-PricedOk r o = KeptOk r (o .security) (o .kind)
+PricedOk r o = kindSound Open (row r (o .security)) noTurnover (o .kind) ≡ true
+
+-- an order is kept, at a good price, as every entry is that is matched
+abbrev pub EntryOk : Rules → Order → Type 0
+EntryOk r o = KeptOk r (o .security) (o .kind)
 
 -- Q and T of each security, with room for so many pieces more
 abbrev pub Turnovers : Day → (ℕ → ℕ) → Type 0
@@ -85,7 +89,7 @@ pub record InFlight (d : Day) (e : Order) : Type 0 where
   pub security : e .security < d .rules .securities
   pub top : e .lots ≤ maxLots
   pub priced : All (PricedOk (d .rules)) (d .waiting)
-  pub entryPriced : PricedOk (d .rules) e
+  pub entryPriced : EntryOk (d .rules) e
   pub limit : CodesOk d
   pub room : length (d .waiting) ≤ maxWaiting
   pub turnoverLength : length (d .turnover) ≡ maxSecurities

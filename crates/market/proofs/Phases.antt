@@ -1,12 +1,12 @@
 -- Laws of question 6: the phase of a call that it admits.
 use mathlib.Core.Path.{_≡_, refl, sym, subst}
 use mathlib.Core.Bool.{true, false}
-use Rattle.market.specs.declared.Access.the-variants.{ClosingOrder, EndCollecting, EndSession, Kept, Member}
+use Rattle.market.specs.declared.Access.the-variants.{ClosingOrder, EndCollecting, EndSession, Kept, Member, NewDay, Offer}
 use Rattle.market.specs.declared.Phase.{Phase}
 use Rattle.market.specs.declared.Phase.the-variants.{Closed, Closing, Collecting, Open}
 use Rattle.market.specs.declared.TimeInForce.{TimeInForce}
 use Rattle.market.specs.declared.TimeInForce.the-variants as force
-use Rattle.market.specs.Sound.{isCollecting, keptIn}
+use Rattle.market.specs.Sound.{isCollecting, isOpen, keptIn}
 use Rattle.market.specs.Phases.{admits, orderAccess}
 use Rattle.market.proofs.Logic.{never}
 
@@ -33,6 +33,19 @@ closing-phase Open e = never e
 closing-phase Collecting e = never e
 closing-phase Closing e = refl
 closing-phase Closed e = never e
+
+-- an offer enters where such may wait
+pub offer-open : (x : Phase) → admits x Offer ≡ true → isOpen x ≡ true
+offer-open Open e = refl
+offer-open Collecting e = e
+offer-open Closing e = e
+offer-open Closed e = e
+
+pub newDay-phase : (x : Phase) → admits x NewDay ≡ true → x ≡ Closed
+newDay-phase Open e = never e
+newDay-phase Collecting e = never e
+newDay-phase Closing e = never e
+newDay-phase Closed e = refl
 
 -- a kept order enters where such may wait
 pub kept-waits : (x : Phase) → admits x Kept ≡ true → keptIn x ≡ true

@@ -11,12 +11,16 @@ use Rattle.market.specs.declared.State.{State}
 use Rattle.market.specs.Limits.{maxSecurities, positionNumbers}
 use Rattle.market.specs.Day.{Day, noOrder}
 
--- "Places past the counts aren't read": the first n orders, blank past the array's end, so that a count above 128
--- shows as a list that is too long
+-- "Places past the counts aren't read": the first n of an array, blanks past its end, so that a count above its length shows
+-- as a list that is too long
+abbrev pub firstOf : {A : Type 0} → A → ℕ → List A → List A
+firstOf blank zero w = []
+firstOf blank (suc n) [] = blank ∷ firstOf blank n []
+firstOf blank (suc n) (x ∷ w) = x ∷ firstOf blank n w
+
+-- the first n orders
 abbrev pub firstOrders : ℕ → List Order → List Order
-firstOrders zero w = []
-firstOrders (suc n) [] = noOrder ∷ firstOrders n []
-firstOrders (suc n) (o ∷ w) = o ∷ firstOrders n w
+firstOrders n w = firstOf noOrder n w
 
 -- the day that a State holds
 abbrev pub view : State → Day

@@ -5,6 +5,7 @@ ghost use Rattle.market.specs.declared.Answer.the-variants.{Done, Refuse
 ghost use Rattle.market.specs.Limits.{limitsInOrder};
 ghost use Rattle.market.specs.View.{dayOf, view};
 ghost use Rattle.market.specs.Parts.{bookOf, rulesOf};
+ghost use Rattle.market.specs.Ledger.{ledgerOf, whole};
 
 pub const MAX_PARTICIPANTS: u64 = 16;
 
@@ -50,11 +51,23 @@ pub const MAX_RATE: u64 = 1000;
 // A rate is in hundred-thousandths of a sum.
 pub const RATE_UNIT: u64 = 100000;
 
+// A repurchase offer's rate, in hundredths of a percent a year, and its term, in days, are at most so much.
+pub const MAX_OFFER_RATE: u64 = 5000;
+
+pub const MAX_TERM: u64 = 365;
+
+// The last day of the table of years, counted from 1970, and the largest first sum of an offer.
+pub const LAST_DAY: u64 = 146096;
+
+pub const MAX_FIRST_SUM: u64 = 10000000000;
+
+pub const MAX_DEALS: u64 = 64;
+
 // The row of the market's own account, behind those of 16 participants.
 pub const MARKET: u64 = 16;
 
 // The limits in the order of specs/Limits, each equal to the definition's.
-pub fn limits() -> [u64; 22]
+pub fn limits() -> [u64; 27]
     ensures { λ r. ⌜ r ≡ limitsInOrder ⌝ }
 {
     [
@@ -79,6 +92,11 @@ pub fn limits() -> [u64; 22]
         MAX_MEMBERS,
         MAX_RATE,
         RATE_UNIT,
+        MAX_OFFER_RATE,
+        MAX_TERM,
+        LAST_DAY,
+        MAX_FIRST_SUM,
+        MAX_DEALS,
         MARKET,
     ]
 }
@@ -102,10 +120,12 @@ pub enum Phase {
     Closed,
 }
 
-// Kind of a waiting order; only a kept one has a price.
+// Kind of a waiting order; a kept one has a price. A repurchase offer (T-06) has rate, term and price, and waits among the orders:
+// rate and term lie where a kept one has padding, so that no order grows.
 pub enum Kind {
     Kept(u64),
     Closing,
+    Offer(u16, u16, u64),
 }
 
 // How an order enters: kept (K), immediate (I), whole or nothing (A).
@@ -126,6 +146,8 @@ pub enum Access {
     EndCollecting,
     StartClosing,
     EndSession,
+    Offer,
+    NewDay,
 }
 
 // With a nominal its prices are hundredths of a percent of that; with 0, none, they are minor units.
@@ -204,6 +226,26 @@ pub enum Call {
     End(Session),
 }
 
+// An open repurchase deal (T-06): what both offers said, who first bought and sold, and its first day. What it costs follows.
+pub struct Deal {
+    pub price: u32,
+    pub first: u32,
+    pub lots: u16,
+    pub rate: u16,
+    pub term: u16,
+    pub buyer: u8,
+    pub seller: u8,
+    pub security: u8,
+}
+
+// What lasts from day to day beside positions and rules: the date, in days from 1970, and the open deals (the first `count`),
+// oldest first.
+pub struct Records {
+    pub date: u64,
+    pub count: usize,
+    pub deals: [Deal; 64],
+}
+
 // A position's cell is participant * 16 + currency or security, free at twice that cell and blocked behind it; the row
 // behind the participants' 16 is the market's own account. The first `count` orders wait.
 pub struct State {
@@ -219,6 +261,7 @@ pub struct State {
     pub phase: Phase,
     pub turnover: [Turnover; 16],
     pub rate: u64,
+    pub records: Records,
 }
 
 // Refused(number, place) or Done(code, filled, left, trades).
@@ -244,6 +287,22 @@ pub struct Carried {
     pub answer: Answer,
     pub phase: Phase,
     pub book: OrderBook,
+}
+
+// An act on the records, with its arguments (T-06); each call of a trading day is an act too.
+pub enum Dealing {
+    // Participant, offer, rate and term.
+    Offer(u64, Ticket, u64, u64),
+    // The deal's place, from 1.
+    SecondPart(u64),
+    // The date.
+    NewDay(u64),
+}
+
+// What such an act comes to on the parts of a ledger.
+pub struct Dealt {
+    pub carried: Carried,
+    pub records: Records,
 }
 
 pub struct Outcome {
@@ -291,6 +350,21 @@ pub fn state_of(
 ) -> State
     ensures { λ r. ⌜ view r ≡ dayOf (rulesOf s) phase money pieces book ⌝ }
 {
+    let records = s.records;
+    state_with(s, phase, money, pieces, book, records)
+}
+
+// The same, and its records.
+pub fn state_with(
+    s: State,
+    phase: Phase,
+    money: [u64; 544],
+    pieces: [u64; 544],
+    book: OrderBook,
+    records: Records,
+) -> State
+    ensures { λ r. ⌜ whole r ≡ ledgerOf (rulesOf s) phase money pieces book records ⌝ }
+{
     let table = s.table;
     let orders = book.orders;
     let turnover = book.turnover;
@@ -307,6 +381,7 @@ pub fn state_of(
         phase,
         turnover,
         rate: s.rate,
+        records,
     }
 }
 

@@ -20,7 +20,7 @@ ghost use lib.ListN.{length};
 ghost use Rattle.market.specs.Limits.{numbersPerTrade};
 ghost use Rattle.market.specs.Day.{withLots};
 ghost use Rattle.market.specs.View.{firstOrders};
-ghost use Rattle.market.specs.Needs.{priceOr};
+ghost use Rattle.market.specs.Needs.{keptPrice};
 ghost use Rattle.market.specs.Positions.{counting};
 ghost use Rattle.market.specs.Matching.{better as isBetter, buyOf, fits as doesFit, fitting, fittingLots, ifBuy};
 ghost use Rattle.market.specs.Matching.{opposite as areOpposite, priceOf, reaches as doesReach, sellOf};
@@ -42,7 +42,7 @@ pub enum Found {
     At(usize, u64),
 }
 
-fn opposite(side: Side, other: Side) -> bool
+pub fn opposite(side: Side, other: Side) -> bool
     ensures { λ r. ⌜ r ≡ areOpposite side other ⌝ }
 {
     match side {
@@ -57,7 +57,7 @@ fn opposite(side: Side, other: Side) -> bool
     }
 }
 
-// A sell's price is at most the buy's; closing orders have no price and meet each other.
+// A sell's price is at most the buy's; closing orders have no price and meet each other; an offer meets no order.
 fn reaches(side: Side, own: Kind, other: Kind) -> bool
     ensures { λ r. ⌜ r ≡ doesReach side own other ⌝ }
 {
@@ -68,11 +68,14 @@ fn reaches(side: Side, own: Kind, other: Kind) -> bool
                 Side::Sell => p <= q,
             },
             Kind::Closing => false,
+            Kind::Offer(_, _, _) => false,
         },
         Kind::Closing => match other {
             Kind::Kept(_) => false,
             Kind::Closing => true,
+            Kind::Offer(_, _, _) => false,
         },
+        Kind::Offer(_, _, _) => false,
     }
 }
 
@@ -103,13 +106,14 @@ fn better(side: Side, p: u64, q: u64) -> bool
     }
 }
 
-// An order's own price; a closing order has none.
+// The price at which an order meets others; only a kept one has such.
 fn price_of(kind: Kind) -> u64
-    ensures { λ r. ⌜ r ≡ priceOr 0 kind ⌝ }
+    ensures { λ r. ⌜ r ≡ keptPrice kind ⌝ }
 {
     match kind {
         Kind::Kept(price) => price,
         Kind::Closing => 0,
+        Kind::Offer(_, _, _) => 0,
     }
 }
 
@@ -162,6 +166,7 @@ fn closer(e: Order, bound: u64, height: u64, o: Order) -> bool
     match kind {
         Kind::Kept(_) => true,
         Kind::Closing => false,
+        Kind::Offer(_, _, _) => false,
     }
 }
 
@@ -299,7 +304,7 @@ pub fn lesser(a: u64, b: u64) -> u64
 }
 
 // The first order for a buy, the second for a sell.
-fn if_buy(side: Side, first: Order, second: Order) -> Order
+pub fn if_buy(side: Side, first: Order, second: Order) -> Order
     ensures { λ r. ⌜ r ≡ ifBuy side first second ⌝ }
 {
     match side {

@@ -1,10 +1,13 @@
 // The opening of a trading day: its arguments are asked, and an empty state is handed back.
 use market::Answer;
+use market::Deal;
 use market::Kind;
+use market::LAST_DAY;
 use market::MAX_RATE;
 use market::Order;
 use market::Outcome;
 use market::Phase;
+use market::Records;
 use market::Rules;
 use market::Security;
 use market::Side;
@@ -17,9 +20,10 @@ use soundness::table_sound;
 ghost use mathlib.Core.Path.{_≡_};
 ghost use Prim.Native.Nat.{_≤_};
 ghost use Rattle.market.specs.Limits.{maxSecurities};
-ghost use Rattle.market.specs.View.{view};
-ghost use Rattle.market.specs.Opening.{opened as openedDay, wrongLine};
-ghost use Rattle.market.specs.Contract.{Opens, emptyState};
+ghost use Rattle.market.specs.Opening.{wrongLine};
+ghost use Rattle.market.specs.Ledger.{whole};
+ghost use Rattle.market.specs.ActStep.{openedLedger};
+ghost use Rattle.market.specs.Contract.{Opens, emptyState, noRecords};
 ghost use Rattle.opening.specs.Opening.{RefusedOpening};
 
 // The place of the first wrong row, from 1; 0 where all are in range.
@@ -38,10 +42,30 @@ fn first_wrong(rules: Rules) -> u64
     0
 }
 
-// Counts, table and rate as given, everything else at zero.
-fn opened(rules: Rules) -> State
-    ensures { λ r. ⌜ view r ≡ openedDay rules ⌝ }
-    ensures { λ r. ⌜ r ≡ emptyState rules ⌝ }
+// No deal is open.
+fn no_deals(date: u64) -> Records
+    ensures { λ r. ⌜ r ≡ noRecords date ⌝ }
+{
+    Records {
+        date,
+        count: 0,
+        deals: [Deal {
+            price: 0,
+            first: 0,
+            lots: 0,
+            rate: 0,
+            term: 0,
+            buyer: 0,
+            seller: 0,
+            security: 0,
+        }; 64],
+    }
+}
+
+// Counts, table, rate and date as given, everything else at zero.
+fn opened(rules: Rules, date: u64) -> State
+    ensures { λ r. ⌜ whole r ≡ openedLedger rules date ⌝ }
+    ensures { λ r. ⌜ r ≡ emptyState rules date ⌝ }
 {
     let table = rules.table;
     let blank = Order {
@@ -68,6 +92,7 @@ fn opened(rules: Rules) -> State
             value: 0,
         }; 16],
         rate: rules.rate,
+        records: no_deals(date),
     }
 }
 
@@ -87,15 +112,15 @@ pub fn refused_opening(number: u64, place: u64) -> Outcome
         }; 16],
         rate: 0,
     };
-    let state = opened(none);
+    let state = opened(none, 0);
     Outcome {
         answer: Answer::Refused(number, place),
         state,
     }
 }
 
-pub fn opening(rules: Rules) -> Outcome
-    ensures { λ r. ⌜ Opens rules r ⌝ }
+pub fn opening(rules: Rules, date: u64) -> Outcome
+    ensures { λ r. ⌜ Opens rules date r ⌝ }
 {
     if !counts_sound(rules.participants, rules.currencies, rules.securities) {
         return refused_opening(17, 0);
@@ -112,5 +137,8 @@ pub fn opening(rules: Rules) -> Outcome
     if MAX_RATE < rules.rate {
         return refused_opening(22, 0);
     }
-    accepted(opened(rules))
+    if LAST_DAY < date {
+        return refused_opening(24, 0);
+    }
+    accepted(opened(rules, date))
 }

@@ -26,7 +26,7 @@ use Rattle.market.proofs.Questions.{all-yes, yes}
 use Rattle.market.proofs.Needs.{kept-limit}
 use Rattle.market.proofs.Known.{is-kept, kept-price}
 use Rattle.market.proofs.View.{first-append, first-length}
-use Rattle.invariant.specs.Standing.{InFlight, PricedOk}
+use Rattle.invariant.specs.Standing.{InFlight, EntryOk}
 use Rattle.invariant.proofs.Flight.{FewTrades, fill-few, fill-flight}
 use Rattle.invariant.proofs.Entry.{flight-starts}
 use Rattle.matching.specs.Filling.{FilledAs, Flies, openDay}
@@ -43,11 +43,11 @@ record Passed (d : Day) (e : Order) (f : TimeInForce) : Type 0 where
   participant : e .participant < d .rules .participants
   security : e .security < d .rules .securities
   top : e .lots ≤ maxLots
-  priced : PricedOk (d .rules) e
+  priced : EntryOk (d .rules) e
   code : e .code ≡ d .codes + 1
   room : roomFor f d ≡ true
 
-priced-limit : (r : Rules) (t : List Turnover) (e : Order) → PricedOk r e → limitOf t e ≤ maxPrice
+priced-limit : (r : Rules) (t : List Turnover) (e : Order) → EntryOk r e → limitOf t e ≤ maxPrice
 priced-limit r t e h =
     omega (arith, kept-limit t e (is-kept r (e .security) (e .kind) h), (kept-price r (e .security) (e .kind) h) .1)
 

@@ -64,13 +64,17 @@ fillableIn Kept w e = true
 fillableIn ImmediateOrCancel w e = true
 fillableIn FillOrKill w e = e .lots ≤? fitting e w
 
--- the questions that ask for no row of the table
-abbrev pub earlyQuestions : ℕ → ℕ → Phase → ℕ → Ticket → Access → List Question
-earlyQuestions participants securities x p m a =
+-- the questions that ask for no row of the table, where the phase admits the call or not
+abbrev pub openQuestions : ℕ → ℕ → Bool → ℕ → Ticket → List Question
+openQuestions participants securities admitted p m =
     ask 4 (known p participants) ∷
     ask 5 (known (m .security) securities) ∷
-    ask 6 (admits x a) ∷
+    ask 6 admitted ∷
     ask 7 (lotsSound (m .lots)) ∷ []
+
+-- those of an order or a member
+abbrev pub earlyQuestions : ℕ → ℕ → Phase → ℕ → Ticket → Access → List Question
+earlyQuestions participants securities x p m a = openQuestions participants securities (admits x a) p m
 
 -- those that read listing and turnover of the order's security, its participant's positions, and counts
 abbrev pub laterQuestions : Listing → Turnover → ℕ → ℕ → ℕ → Ticket → TimeInForce → List ℕ → List ℕ → List Question

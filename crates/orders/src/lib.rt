@@ -41,7 +41,7 @@ ghost use Rattle.market.specs.Questions.{firstNo};
 ghost use Rattle.market.specs.Entry.{leftWaiting};
 ghost use Rattle.market.specs.Parts.{Carries, Ready};
 ghost use Rattle.matching.specs.Orders.{FewLots, waitingIn};
-ghost use Rattle.orders.specs.Entering.{Askable, Enterable, Enters, EntryNo, Known, earlyQuestions, entryWith, fillableIn, laterQuestions, roomWith};
+ghost use Rattle.orders.specs.Entering.{Askable, Enterable, Enters, EntryNo, Known, entryWith, fillableIn, laterQuestions, openQuestions, roomWith};
 ghost use Rattle.orders.specs.Finding.{OfSecurity, foundAt, isOwn as ownOrder};
 
 // Where an order waits in the list, and its security.
@@ -101,16 +101,16 @@ pub fn access_of(force: TimeInForce) -> Access
     }
 }
 
-// The first "no" of questions 4 to 7, which ask for no row of the table; 0 where there is none.
-fn early_no(
+// The first "no" of questions 4 to 7, which ask for no row of the table; 0 where there is none. Whether the phase admits
+// the call is asked by the caller.
+pub fn early_no(
     participants: u64,
     securities: u64,
-    phase: Phase,
+    admitted: bool,
     participant: u64,
     member: Ticket,
-    access: Access,
 ) -> u64
-    ensures { λ r. ⌜ r ≡ firstNo (earlyQuestions participants securities phase participant member access) ⌝ }
+    ensures { λ r. ⌜ r ≡ firstNo (openQuestions participants securities admitted participant member) ⌝ }
 {
     if participants <= participant {
         return 4;
@@ -118,7 +118,7 @@ fn early_no(
     if securities <= member.security {
         return 5;
     }
-    if !admits(phase, access) {
+    if !admitted {
         return 6;
     }
     if !within(1, MAX_LOTS, member.lots) {
@@ -176,13 +176,13 @@ pub fn order_no<'a>(
     requires { ⌜ Known rules codes ⌝ }
     ensures { λ r. ⌜ EntryNo rules phase turnovers count codes (now (money .entry)) (now (pieces .entry)) participant ticket access force r ⌝ }
 {
+    let admitted = admits(phase, access);
     let early = early_no(
         rules.participants,
         rules.securities,
-        phase,
+        admitted,
         participant,
         ticket,
-        access,
     );
     if 0 < early {
         return early;

@@ -13,7 +13,7 @@ use Rattle.market.specs.declared.Order.{Order}
 use Rattle.market.specs.declared.Side.{Side}
 use Rattle.market.specs.declared.Side.the-variants.{Buy, Sell}
 use Rattle.market.specs.Day.{orderAt}
-use Rattle.market.specs.Needs.{priceOr}
+use Rattle.market.specs.Needs.{keptPrice}
 use Rattle.market.specs.View.{firstOrders}
 use Rattle.market.specs.Matching.{Best, best, better, fits, found, next, none, prefer, priceOf, reaches}
 use Rattle.market.proofs.Logic.{never}
@@ -40,10 +40,12 @@ module _ (e : Order) (closing : e .kind ≡ kind.Closing) where
   no-price : (o : Order) → fits e o ≡ true → priceOf o ≡ 0
   no-price o f = go (e .side) (o .kind) (subst (λ (k : Kind). reaches (e .side) k (o .kind) ≡ true) closing ((fit e o f) .price))
     where
-      go : (side : Side) (k : Kind) → reaches side kind.Closing k ≡ true → priceOr 0 k ≡ 0
+      go : (side : Side) (k : Kind) → reaches side kind.Closing k ≡ true → keptPrice k ≡ 0
       go side kind.Closing h = refl
       go Buy (kind.Kept p) h = never h
       go Sell (kind.Kept p) h = never h
+      go Buy (kind.Offer rate term p) h = never h
+      go Sell (kind.Offer rate term p) h = never h
 
   found-price : (w : List Order) (i p : ℕ) → best e w ≡ found i p → p ≡ 0
   found-price w i p q =
@@ -98,3 +100,4 @@ module _ (x y : Order) {limit : Kind} (ex : x .kind ≡ limit) (ey : y .kind ≡
       go kind.Closing none q h = never h
       go kind.Closing (found j m) none h = never h
       go kind.Closing (found j m) (found k n) h = (refl, tt, tt)
+      go (kind.Offer rate term n) p q h = never h

@@ -4,39 +4,31 @@ use native.Mathlib.Omega.{arith}
 use mathlib.Core.Path.{_≡_, refl, ap, sym, _∙_, subst}
 use mathlib.Core.List.{List, [], _∷_}
 use lib.ListN.{length, take-append-drop}
-use borrow.Author.Tests.{leb-true}
 use Rattle.market.specs.declared.Order.{Order}
 use Rattle.market.specs.declared.OrderBook.{OrderBook}
 use Rattle.market.specs.declared.Phase.{Phase}
 use Rattle.market.specs.declared.Listing.{Listing}
 use Rattle.market.specs.declared.Side.the-variants.{Buy, Sell}
 use Rattle.market.specs.declared.Turnover.{Turnover}
-use Rattle.market.specs.Limits.{maxCodes, maxLots, maxPrice, maxSecurities, maxWaiting, numbersPerTrade}
+use Rattle.market.specs.Limits.{maxLots, maxSecurities, maxWaiting, numbersPerTrade}
 use Rattle.market.specs.declared.Rules.{Rules}
-use Rattle.market.specs.declared.Asset.{Asset}
-use Rattle.market.specs.declared.Asset.the-variants.{Money, Pieces}
-use Rattle.market.specs.Day.{Day, row, noOrder, orderAt, turnoverAt}
+use Rattle.market.specs.Day.{Day, noOrder, orderAt, turnoverAt}
 use Rattle.market.specs.View.{dayOf}
-use Rattle.market.specs.Needs.{limitOf, needAt, piecesOf, valueFor}
 use Rattle.market.specs.Positions.{settle}
 use Rattle.market.specs.TradeList.{lotsOf, tradeOf}
 use Rattle.market.specs.Matching.{Best, found, none}
 use Rattle.market.specs.Pairing.{Paired, Terms, counterparty, firstBuy, firstSell, pairedOff, pairs}
 use Rattle.market.specs.Pairing.{takeBoth}
-use Rattle.market.proofs.Lists.{all-at, sum-remove}
-use Rattle.market.specs.Parts.{listing}
-use Rattle.market.proofs.Needs.{pieces-small, value-small}
-use Rattle.market.proofs.Known.{OrderOk, listing-ok}
+use Rattle.market.proofs.Lists.{all-at}
 use Rattle.market.proofs.Matching.{Chosen, best-chosen}
-use Rattle.market.proofs.Pairs.{Meeting, meet-apart, meets, pairs-no-buy, pairs-no-sell, pairs-one}
+use Rattle.market.proofs.Pairs.{Both, Meeting, Stands, meets, pairs-no-buy, pairs-no-sell, pairs-one, stand-apart}
 use Rattle.market.proofs.View.{first-length}
-use Rattle.invariant.specs.Standing.{KindOk, Standing, needsOf}
-use Rattle.invariant.proofs.Whole.{limit-fits}
+use Rattle.invariant.specs.Standing.{Standing}
 use Rattle.invariant.proofs.Pairing.{Fair, FairTo, pair-standing, pair-two}
-use Rattle.matching.specs.Execution.{Countable, Executable, Executes}
+use Rattle.matching.specs.Execution.{Executable, Executes}
 use Rattle.matching.specs.Orders.{waitingIn}
 use Rattle.matching.specs.Written.{tradeWritten}
-use Rattle.matching.proofs.Ready.{settled, settles}
+use Rattle.matching.proofs.Pairing.{PairOk, buyOk, day-paired, list-paired, pair-executable}
 use Rattle.matching.proofs.Writing.{written-length, written-next, writtenFrom}
 use Rattle.pairing.specs.Pairing.{Counts, Meets, PairedAs}
 
@@ -151,17 +143,20 @@ module _ {g : Start} {m k v : List ℕ} {b : OrderBook} {made : ℕ} (h : Going 
     abbrev n : ℕ
     n = min (buy .lots) (sell .lots)
 
-    buys : Meeting Buy (g .s) (g .t .limit) (waitingIn b) i
-    buys =
+    met : Meeting Buy (g .s) (g .t .limit) (waitingIn b) i
+    met =
         meets Buy (g .s) (g .t .limit) (waitingIn b) i a
         (subst (λ (y : Best). Chosen (counterparty Sell (g .s) (g .t .limit)) (waitingIn b) y) eb
         (best-chosen (counterparty Sell (g .s) (g .t .limit)) (waitingIn b)))
 
-    sells : Meeting Sell (g .s) (g .t .limit) (waitingIn b) j
+    buys : Stands Buy (g .s) (waitingIn b) i
+    buys = met .stands
+
+    sells : Stands Sell (g .s) (waitingIn b) j
     sells =
-        meets Sell (g .s) (g .t .limit) (waitingIn b) j c
+        (meets Sell (g .s) (g .t .limit) (waitingIn b) j c
         (subst (λ (y : Best). Chosen (counterparty Buy (g .s) (g .t .limit)) (waitingIn b) y) es
-        (best-chosen (counterparty Buy (g .s) (g .t .limit)) (waitingIn b)))
+        (best-chosen (counterparty Buy (g .s) (g .t .limit)) (waitingIn b)))) .stands
 
     pub going-buy : i < b .count
     going-buy = omega (arith, buys .inside, first-length (b .count) (b .orders))
@@ -170,113 +165,55 @@ module _ {g : Start} {m k v : List ℕ} {b : OrderBook} {made : ℕ} (h : Going 
     going-sell = omega (arith, sells .inside, first-length (b .count) (b .orders))
 
     pub going-apart : i ≡ j → ⊥
-    going-apart = meet-apart (g .s) (g .t .limit) (waitingIn b) i j buys sells
+    going-apart = stand-apart (g .s) (waitingIn b) i j buys sells
 
-    fair : p ≤ limitOf (b .turnover) buy
-    fair =
-        all-at (FairTo (g .s) (g .t) (b .turnover)) noOrder (waitingIn b) i (h .meets .fair) (buys .inside) (buys .security)
-        (buys .reach)
+    pair : PairOk (g .r) (g .x) (g .l) b (g .s) p i j n m k
+    pair = record {
+      listing = h .meets .listing;
+      standing = st;
+      buys = buys;
+      sells = sells;
+      price =
+          all-at (FairTo (g .s) (g .t) (b .turnover)) noOrder (waitingIn b) i (h .meets .fair) (buys .inside) (buys .security)
+          (met .reach);
+      bought = omega arith;
+      sold = omega arith;
+    }
 
-    buyOk : OrderOk (g .r) buy
-    buyOk = all-at (OrderOk (g .r)) noOrder (waitingIn b) i (st .orders) (buys .inside)
-
-    sellOk : OrderOk (g .r) sell
-    sellOk = all-at (OrderOk (g .r)) noOrder (waitingIn b) j (st .orders) (sells .inside)
-
-    same : sell .security ≡ buy .security
-    same = sym (sells .security) ∙ buys .security
-
-    limit : limitOf (b .turnover) buy ≤ maxPrice
-    limit = limit-fits d st buy buyOk (all-at (KindOk d) noOrder (waitingIn b) i (st .kinds) (buys .inside))
-
-    listed : (q : ℕ) → q < length (waitingIn b) → (y : Asset) (e : ℕ)
-        → needAt y (g .r) (b .turnover) e (orderAt (waitingIn b) q) ≤ needsOf y d (waitingIn b) e
-    listed q hq y e = omega (arith, sum-remove (needAt y (g .r) (b .turnover) e) noOrder (waitingIn b) q hq)
-
-    -- Q and T are as they were, and the trade is within what a trade can be
-    countable : Countable (turnoverAt (b .turnover) (buy .security)) (piecesOf (row (g .r) (buy .security)) n)
-        (valueFor (row (g .r) (buy .security)) p n)
-    countable =
-        let q = st .turnovers (buy .security) (buyOk .security) in
-        let lot = st .backed .rulesOk .lot (buy .security) (buyOk .security) in
-        let codes = leb-true (b .codes) maxCodes (st .limit) in
-        let x = row (g .r) (buy .security) in
-        let lots : n ≤ maxLots = omega (arith, buyOk .top) in
-        record {
-          roomQ = omega (arith, q .top);
-          roomT = omega (arith, q .top, q .high);
-          few = pieces-small x n lot lots;
-          low = value-small x p n lot (omega (arith, fair, limit)) lots;
-        }
-
-    pub going-lent : numbersPerTrade * made + numbersPerTrade ≤ length v
+    going-lent : numbersPerTrade * made + numbersPerTrade ≤ length v
     going-lent = omega (arith, h .count, h .counts .lent, h .long, going-buy)
 
-    abbrev Ready : Listing → Turnover → Order → Order → ℕ → Type 0
-    Ready x q y z w = Executable x q y z p w made m k v
-
-    ready : Ready (g .l) (turnoverAt (g .b .turnover) (g .s)) buy sell n
-    ready =
-        subst (λ (x : List Turnover). Ready (g .l) (turnoverAt x (g .s)) buy sell n) (h .turnover)
-        (subst (λ (x : Listing). Ready x (turnoverAt (b .turnover) (g .s)) buy sell n) (h .meets .listing)
-        (subst (λ (x : ℕ). Ready (listing (g .r) x) (turnoverAt (b .turnover) x) buy sell n) (sym (buys .security))
-        (record {
-          settles =
-              settles [] d (st .backed) buy sell p n buyOk sellOk (buys .side) (sells .side) same fair (omega arith) (omega arith)
-              (listed i (buys .inside) Money) (listed j (sells .inside) Pieces) (omega (arith, fair, limit));
-          reckoned = record {
-            listing = listing-ok (g .r) (buy .security) (st .backed .rulesOk) (buyOk .security);
-            limit = limit;
-            top = buyOk .top;
-            part = omega arith;
-          };
-          price = omega (arith, fair, limit);
-          counts = countable;
-          lent = going-lent;
-        })))
-
     pub going-lots : b .filled + n ≤ maxLots * (made + 1)
-    going-lots = omega (arith, h .few, buyOk .top)
+    going-lots = omega (arith, h .few, (buyOk pair) .top)
+
+    both : Both (waitingIn b) i j n (takeBoth (waitingIn b) i j n)
+    both = pair-two d st (g .s) p i j n buys sells (pair .price) (pair .bought) (pair .sold)
+
+    -- Q and T are those of the start
+    turnover-is : turnoverAt (g .b .turnover) (g .s) ≡ turnoverAt (b .turnover) (g .s)
+    turnover-is = ap (λ (x : List Turnover). turnoverAt x (g .s)) (sym (h .turnover))
 
     -- the code's orders and lots
     module _ {y z : Order} {w : ℕ} (one : y ≡ buy) (other : z ≡ sell) (part : w ≡ n) where
-      pub going-ready : Ready (g .l) (turnoverAt (g .b .turnover) (g .s)) y z w
-      going-ready = rw (one, other, part) ready
+      pub going-ready : Executable (g .l) (turnoverAt (g .b .turnover) (g .s)) y z p w made m k v
+      going-ready = pair-executable pair turnover-is one other refl part v made going-lent
 
       -- what it hands over: the parts after the trade
       module _ {m′ k′ v′ : List ℕ} {q : Turnover} (b′ : OrderBook)
           (done : Executes (g .l) (turnoverAt (g .b .turnover) (g .s)) y z p w made m k v m′ k′ v′ q)
           (waiting : waitingIn b′ ≡ takeBoth (waitingIn b) i j w) (codes : b′ .codes ≡ b .codes)
           (turnover : b′ .turnover ≡ b .turnover) (left : b′ .left ≡ b .left) (filled : b′ .filled ≡ b .filled + w) where
-        abbrev Did : Listing → Turnover → Order → Order → ℕ → Type 0
-        Did x e f o u = Executes x e f o p u made m k v m′ k′ v′ q
-
-        exact : Did (listing (g .r) (buy .security)) (turnoverAt (b .turnover) (buy .security)) buy sell n
-        exact =
-            subst (λ (x : ℕ). Did (listing (g .r) x) (turnoverAt (b .turnover) x) buy sell n) (buys .security)
-            (subst (λ (x : Listing). Did x (turnoverAt (b .turnover) (g .s)) buy sell n) (sym (h .meets .listing))
-            (subst (λ (x : List Turnover). Did (g .l) (turnoverAt x (g .s)) buy sell n) (sym (h .turnover))
-            (subst (λ (x : ℕ). Did (g .l) (turnoverAt (g .b .turnover) (g .s)) buy sell x) part
-            (subst (λ (x : Order). Did (g .l) (turnoverAt (g .b .turnover) (g .s)) buy x w) other
-            (subst (λ (x : Order). Did (g .l) (turnoverAt (g .b .turnover) (g .s)) x z w) one done)))))
+        off : waitingIn b′ ≡ takeBoth (waitingIn b) i j n
+        off = waiting ∙ ap (takeBoth (waitingIn b) i j) part
 
         after : dayOf (g .r) (g .x) m′ k′ b′ ≡ pairedOff d i j p n
-        unfolding pairedOff settle
-        after =
-            let positions = settled [] d (st .backed) buy sell p n buyOk sellOk (buys .side) (sells .side) same fair
-            (omega arith) (omega arith) (listed i (buys .inside) Money) (listed j (sells .inside) Pieces) m′ k′ (exact .money)
-            (exact .pieces) in
-            let money = ap (λ (x : Day). x .money) positions in
-            let pieces = ap (λ (x : Day). x .pieces) positions in
-            let off : waitingIn b′ ≡ takeBoth (waitingIn b) i j n = waiting ∙ ap (takeBoth (waitingIn b) i j) part in
-            rw (off, codes, turnover, money, pieces)
+        after = day-paired pair turnover-is one other refl part done b′ off codes turnover
 
         pub going-less : b′ .count < b .count
         going-less =
-            let off : waitingIn b′ ≡ takeBoth (waitingIn b) i j n = waiting ∙ ap (takeBoth (waitingIn b) i j) part in
             omega (
               arith,
-              (pair-two d st (g .s) (g .t .limit) p i j n buys sells fair (omega arith) (omega arith)) .shorter (omega arith),
+              both .shorter (omega arith),
               ap length off,
               first-length (b .count) (b .orders),
               first-length (b′ .count) (b′ .orders),
@@ -284,9 +221,7 @@ module _ {g : Start} {m k v : List ℕ} {b : OrderBook} {made : ℕ} (h : Going 
 
         fair-after : Fair (g .s) (g .t) (pairedOff d i j p n)
         unfolding pairedOff settle
-        fair-after =
-            (pair-two d st (g .s) (g .t .limit) p i j n buys sells fair (omega arith) (omega arith)) .all
-            (FairTo (g .s) (g .t) (b .turnover)) (λ o e u. e) (h .meets .fair)
+        fair-after = both .all (FairTo (g .s) (g .t) (b .turnover)) (λ o e u. e) (h .meets .fair)
 
         pub going-next : Going g m′ k′ v′ b′ (made + 1)
         unfolding lotsOf
@@ -299,14 +234,14 @@ module _ {g : Start} {m k v : List ℕ} {b : OrderBook} {made : ℕ} (h : Going 
               day = (pairs (g .s) (g .t) x) .day;
               trades = trade ∷ (pairs (g .s) (g .t) x) .trades;
             }) (sym after) in
-            let listed : v′ ≡ tradeWritten made trade v = exact .list in
+            let listed : v′ ≡ tradeWritten made trade v = list-paired pair turnover-is one other refl part done in
             record {
               meets = record {
                 listing = h .meets .listing;
                 known = h .meets .known;
                 standing =
                     subst Standing (sym after)
-                    (pair-standing d st (g .s) (g .t .limit) p i j n buys sells fair (omega arith) (omega arith));
+                    (pair-standing d st (g .s) p i j n buys sells (pair .price) (pair .bought) (pair .sold));
                 fair = subst (Fair (g .s) (g .t)) (sym after) fair-after;
               };
               long = ap length listed ∙ written-length v made trade going-lent ∙ h .long;

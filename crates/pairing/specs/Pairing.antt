@@ -26,6 +26,7 @@ decided (kind.Kept p) x y = false
 decided kind.Closing none y = false
 decided kind.Closing (found i p) none = false
 decided kind.Closing (found i p) (found j q) = true
+decided (kind.Offer rate term p) x y = false
 
 -- under rules r, in phase x, l is the listing of security s, the day is sound, and the terms t are fair to its buys
 pub record Meets (r : Rules) (x : Phase) (l : Listing) (s : ℕ) (t : Terms) (b : OrderBook) (m k : List ℕ) : Type 0 where

@@ -67,6 +67,7 @@ fn decided(limit: Kind, buys: Found, sells: Found) -> bool
                 Found::At(_, _) => true,
             },
         },
+        Kind::Offer(_, _, _) => false,
     }
 }
 

@@ -9,7 +9,8 @@ use lib.ListN.{drop, length, take}
 use borrow.Author.Tests.{eqb-false}
 use Rattle.market.specs.declared.Access.{Access}
 use Rattle.market.specs.declared.Access.the-variants.{ClosingOrder, EndCollecting, EndSession, FillOrKill}
-use Rattle.market.specs.declared.Access.the-variants.{Member, StartClosing, StartCollecting}
+use Rattle.market.specs.declared.Access.the-variants.{Member, NewDay, Offer, StartClosing, StartCollecting}
+use Rattle.market.specs.declared.Answer.{Answer}
 use Rattle.market.specs.declared.Answer.the-variants.{Refused}
 use Rattle.market.specs.declared.Order.{Order}
 use Rattle.market.specs.declared.Phase.{Phase}
@@ -30,11 +31,16 @@ use Rattle.market.specs.Questions.{memberQuestions, orderQuestions, questions, 
 use Rattle.market.specs.Entry.{admitted, entered, placed}
 use Rattle.market.specs.Linked.{Group, groupResult, memberBy, members, passed, stopped, withMember}
 use Rattle.market.specs.Step.{allQuestions, answerBy, effect, result, step}
+use Rattle.market.specs.Offers.{offerOf}
+use Rattle.market.specs.Ledger.{Ledger}
+use Rattle.market.specs.Acts.{Act, day, newDay, offer, secondPart}
+use Rattle.market.specs.ActStep.{ActReply, actBy, actEffect, actQuestions, actResult, actStep, allActQuestions, offerQuestions}
 use Rattle.market.proofs.Logic.{within-low}
 use Rattle.market.proofs.Questions.{AllYes, all-yes, hides, passes, proper}
 use Rattle.market.proofs.Entry.{taken-either}
 use Rattle.market.proofs.Fill.{fill-all}
-use Rattle.phases.specs.Cases.{AskedSix, InEveryPhase, MembersSix, NeverSix}
+use Rattle.market.proofs.Acts.{lifted, offered-answer}
+use Rattle.phases.specs.Cases.{ActSixExactly, AskedSix, Decided, InEveryPhase, MembersSix, NeverSix}
 use Rattle.phases.specs.Cases.{SixExactly, earlier}
 
 pub in-every-phase : (d : Day) (x : Phase) (lent : ℕ) → InEveryPhase d x lent
@@ -81,7 +87,30 @@ unfolding effect entered placed
 order-accepted d p m k =
     taken-either (λ (r : Result). (numbersOf (r .answer)) .refusal ≡ 0) d (entryOf d p m) k refl refl
 
--- the answer to a call by the first "no" of its questions
+-- an answer by the first "no" of these questions: 6 where that is, and nowhere else
+module _ (asked : List Question) (answer : Answer) (six : firstNo asked ≡ 6 → answer ≡ Refused 6 0)
+    (only : (firstNo asked ≡ 6 → ⊥) → (numbersOf answer) .refusal ≡ 6 → ⊥) where
+  -- question 6 stands behind n of them
+  asks-six : (n : ℕ) (x : Phase) (a : Access) → asked ≡ take n asked ++ (ask 6 (admits x a) ∷ drop (suc n) asked)
+      → earlier asked ≡ take n asked → T (proper (take n asked)) → T (others (take n asked)) → T (others (drop (suc n) asked))
+      → Decided x a (earlier asked) answer 0
+  asks-six n x a split front t before after = record {
+    refuses =
+        λ h e.
+        six (ap firstNo split ∙ rw h (six-no (take n asked) (drop (suc n) asked) t (ap firstNo (sym front) ∙ e)));
+    clears =
+        λ h.
+        only
+        (λ e.
+        six-yes (take n asked) (drop (suc n) asked) t before after
+        (ap (λ (z : Bool). firstNo (take n asked ++ (ask 6 z ∷ drop (suc n) asked))) (sym h) ∙ sym (ap firstNo split) ∙ e));
+  }
+
+  -- it does not stand among them
+  asks-none : T (others asked) → (numbersOf answer) .refusal ≡ 6 → ⊥
+  asks-none t = only (other-no asked t)
+
+-- so of a call of the trading day
 module _ (d : Day) (l : List ℕ) (c : Call) where
   abbrev asked : List Question
   asked = allQuestions d (length l) c
@@ -90,36 +119,23 @@ module _ (d : Day) (l : List ℕ) (c : Call) where
   unfolding step result
   refused-six e = rw e
 
-  not-six : (firstNo asked ≡ 6 → ⊥) → (firstNo asked ≡ 0 → (numbersOf ((effect d c) .answer)) .refusal ≡ 6 → ⊥)
+  not-six : (firstNo asked ≡ 0 → (numbersOf ((effect d c) .answer)) .refusal ≡ 6 → ⊥) → (firstNo asked ≡ 6 → ⊥)
       → (numbersOf ((step d l c) .answer)) .refusal ≡ 6 → ⊥
   unfolding step result
-  not-six other done = go (firstNo asked) refl
+  not-six done other = go (firstNo asked) refl
     where
       go : (n : ℕ) → firstNo asked ≡ n → (numbersOf ((answerBy n d (effect d c)) .answer)) .refusal ≡ 6 → ⊥
       go zero z e = done z e
       go (suc n) z e = other (z ∙ e)
 
-  -- question 6 stands behind n questions of the call
-  asks-six : (n : ℕ) (a : Access) → asked ≡ take n asked ++ (ask 6 (admits (d .phase) a) ∷ drop (suc n) asked)
+  call-six : (n : ℕ) (a : Access) → asked ≡ take n asked ++ (ask 6 (admits (d .phase) a) ∷ drop (suc n) asked)
       → earlier asked ≡ take n asked → T (proper (take n asked)) → T (others (take n asked)) → T (others (drop (suc n) asked))
       → Accepted d c → AskedSix d l c a
-  asks-six n a split front t before after done = record {
-    refuses =
-        λ h e.
-        refused-six (ap firstNo split
-        ∙ rw h (six-no (take n asked) (drop (suc n) asked) t (ap firstNo (sym front) ∙ e)));
-    clears =
-        λ h.
-        not-six
-        (λ e.
-        six-yes (take n asked) (drop (suc n) asked) t before after
-        (ap (λ (z : Bool). firstNo (take n asked ++ (ask 6 z ∷ drop (suc n) asked))) (sym h) ∙ sym (ap firstNo split) ∙ e))
-        (λ z e. omega (arith, done));
-  }
+  call-six n a split front t before after done =
+      asks-six asked ((step d l c) .answer) refused-six (not-six (λ z e. omega (arith, done))) n (d .phase) a split front t before after
 
-  -- it does not stand among them
-  asks-none : T (others asked) → Accepted d c → NeverSix d l c
-  asks-none t done = not-six (other-no asked t) (λ z e. omega (arith, done))
+  call-none : T (others asked) → Accepted d c → NeverSix d l c
+  call-none t done = asks-none asked ((step d l c) .answer) refused-six (not-six (λ z e. omega (arith, done))) t
 
 -- the phase of a day stays while members of a group enter
 fill-phase : (d : Day) (e : Order) → (fill d e) .day .phase ≡ d .phase
@@ -197,7 +213,7 @@ group-refused d l p (suc n) m ms y six = rw (y .0, y .1 .0, y .1 .1 .0, six)
 
 group-asked : (d : Day) (l : List ℕ) (p n : ℕ) (ms : List Ticket) → MembersSix d l p n ms
 unfolding questions effect members
-group-asked d l p n [] = not-six d l (linked p n []) (other-no (asked d l (linked p n [])) tt) (λ z e. none n e)
+group-asked d l p n [] = not-six d l (linked p n []) (λ z e. none n e) (other-no (asked d l (linked p n [])) tt)
   where
     none : (n : ℕ) → (numbersOf ((groupResult d p (members 1 d p (take n []))) .answer)) .refusal ≡ 6 → ⊥
     none zero e = omega arith
@@ -209,21 +225,55 @@ group-asked d l p n (m ∷ ms) = record {
       group-refused d l p n m ms (y .0) (member-six-no d p m h (y .1));
   clears =
       λ h.
-      not-six d l (linked p n (m ∷ ms)) (other-no (asked d l (linked p n (m ∷ ms))) tt)
-      (λ z e. members-admitted (take n (m ∷ ms)) 1 d p h (sym (group-number d p (members 1 d p (take n (m ∷ ms)))) ∙ e));
+      not-six d l (linked p n (m ∷ ms))
+      (λ z e. members-admitted (take n (m ∷ ms)) 1 d p h (sym (group-number d p (members 1 d p (take n (m ∷ ms)))) ∙ e))
+      (other-no (asked d l (linked p n (m ∷ ms))) tt);
 }
 
 pub six-exactly : (d : Day) (l : List ℕ) (c : Call) → SixExactly d l c
 unfolding questions orderQuestions closingQuestions effect placed
-six-exactly d l (increase x p column a) = asks-none d l (increase x p column a) tt refl
-six-exactly d l (decrease x p column a) = asks-none d l (decrease x p column a) tt refl
+six-exactly d l (increase x p column a) = call-none d l (increase x p column a) tt refl
+six-exactly d l (decrease x p column a) = call-none d l (decrease x p column a) tt refl
 six-exactly d l (order p m k) =
-    asks-six d l (order p m k) 4 (orderAccess k) refl refl tt tt tt (order-accepted d p m k)
-six-exactly d l (cancel p code) = asks-none d l (cancel p code) tt refl
+    call-six d l (order p m k) 4 (orderAccess k) refl refl tt tt tt (order-accepted d p m k)
+six-exactly d l (cancel p code) = call-none d l (cancel p code) tt refl
 six-exactly d l (linked p n ms) = group-asked d l p n ms
-six-exactly d l startClosing = asks-six d l startClosing 1 StartClosing refl refl tt tt tt refl
+six-exactly d l startClosing = call-six d l startClosing 1 StartClosing refl refl tt tt tt refl
 six-exactly d l (closingOrder p side s lots) =
-    asks-six d l (closingOrder p side s lots) 3 ClosingOrder refl refl tt tt tt refl
-six-exactly d l endSession = asks-six d l endSession 2 EndSession refl refl tt tt tt refl
-six-exactly d l startCollecting = asks-six d l startCollecting 1 StartCollecting refl refl tt tt tt refl
-six-exactly d l endCollecting = asks-six d l endCollecting 2 EndCollecting refl refl tt tt tt refl
+    call-six d l (closingOrder p side s lots) 3 ClosingOrder refl refl tt tt tt refl
+six-exactly d l endSession = call-six d l endSession 2 EndSession refl refl tt tt tt refl
+six-exactly d l startCollecting = call-six d l startCollecting 1 StartCollecting refl refl tt tt tt refl
+six-exactly d l endCollecting = call-six d l endCollecting 2 EndCollecting refl refl tt tt tt refl
+
+-- and of an act on a ledger
+module _ (l : Ledger) (v : List ℕ) (a : Act) (done : (numbersOf ((actEffect l a) .answer)) .refusal ≡ 0) where
+  abbrev actAsked : List Question
+  actAsked = allActQuestions l (length v) a
+
+  act-refused-six : firstNo actAsked ≡ 6 → (actStep l v a) .answer ≡ Refused 6 0
+  unfolding actStep actResult
+  act-refused-six e = rw e
+
+  act-not-six : (firstNo actAsked ≡ 6 → ⊥) → (numbersOf ((actStep l v a) .answer)) .refusal ≡ 6 → ⊥
+  unfolding actStep actResult
+  act-not-six other = go (firstNo actAsked) refl
+    where
+      go : (n : ℕ) → firstNo actAsked ≡ n → (numbersOf ((actBy n l (actEffect l a)) .answer)) .refusal ≡ 6 → ⊥
+      go zero z e = omega (arith, done)
+      go (suc n) z e = other (z ∙ e)
+
+pub act-six-exactly : (l : Ledger) (v : List ℕ) (a : Act) → ActSixExactly l v a
+unfolding actQuestions offerQuestions actEffect
+act-six-exactly l v (day c) = (λ t. ap (λ (x : ActReply). x .answer) (lifted l v c t), six-exactly (l .day) v c)
+act-six-exactly l v (offer p m rate term) =
+    let a = offer p m rate term in
+    let done = offered-answer (l .day) (offerOf (l .day) p m rate term) (λ x. (numbersOf x) .refusal ≡ 0) (λ filled left. refl) in
+    asks-six (actAsked l v a done) ((actStep l v a) .answer) (act-refused-six l v a done) (act-not-six l v a done) 4 (l .day .phase) Offer
+    refl refl tt tt tt
+act-six-exactly l v (secondPart place) =
+    let a = secondPart place in
+    asks-none (actAsked l v a refl) ((actStep l v a) .answer) (act-refused-six l v a refl) (act-not-six l v a refl) tt
+act-six-exactly l v (newDay date) =
+    let a = newDay date in
+    asks-six (actAsked l v a refl) ((actStep l v a) .answer) (act-refused-six l v a refl) (act-not-six l v a refl) 1 (l .day .phase) NewDay
+    refl refl tt tt tt

@@ -6,7 +6,7 @@ use mathlib.Core.Bool.{true, false, cond}
 use lib.ListN.{length}
 use Rattle.market.specs.declared.Access.{Access}
 use Rattle.market.specs.declared.Access.the-variants.{ClosingOrder, EndCollecting, EndSession}
-use Rattle.market.specs.declared.Access.the-variants.{Member, StartClosing, StartCollecting}
+use Rattle.market.specs.declared.Access.the-variants.{Member, NewDay, Offer, StartClosing, StartCollecting}
 use Rattle.market.specs.declared.Answer.{Answer}
 use Rattle.market.specs.declared.Answer.the-variants.{Refused}
 use Rattle.market.specs.declared.Phase.{Phase}
@@ -20,6 +20,9 @@ use Rattle.market.specs.Calls.{linked, order, startClosing, startCollecting}
 use Rattle.market.specs.Phases.{admits, orderAccess}
 use Rattle.market.specs.Questions.{Question, firstNo, memberQuestions, questions}
 use Rattle.market.specs.Step.{allQuestions, step}
+use Rattle.market.specs.Ledger.{Ledger, ledgerSound}
+use Rattle.market.specs.Acts.{Act, day, newDay, offer, secondPart}
+use Rattle.market.specs.ActStep.{actStep, allActQuestions}
 
 -- the questions in front of question 6
 abbrev pub earlier : List Question → List Question
@@ -57,6 +60,18 @@ SixExactly d l (closingOrder p side s lots) = AskedSix d l (closingOrder p side 
 SixExactly d l endSession = AskedSix d l endSession EndSession
 SixExactly d l startCollecting = AskedSix d l startCollecting StartCollecting
 SixExactly d l endCollecting = AskedSix d l endCollecting EndCollecting
+
+-- and for each act: a call of the trading day answers on a sound ledger as on its day; a second part comes "on a call in any
+-- phase" (T-06)
+abbrev pub AskedActSix : Ledger → List ℕ → Act → Access → Type 0
+AskedActSix l v a x = Decided (l .day .phase) x (earlier (allActQuestions l (length v) a)) ((actStep l v a) .answer) 0
+
+abbrev pub ActSixExactly : Ledger → List ℕ → Act → Type 0
+ActSixExactly l v (day c) =
+    (ledgerSound l ≡ true → (actStep l v (day c)) .answer ≡ (step (l .day) v c) .answer) × SixExactly (l .day) v c
+ActSixExactly l v (offer p m rate term) = AskedActSix l v (offer p m rate term) Offer
+ActSixExactly l v (secondPart place) = (numbersOf ((actStep l v (secondPart place)) .answer)) .refusal ≡ 6 → ⊥
+ActSixExactly l v (newDay date) = AskedActSix l v (newDay date) NewDay
 
 -- "Reserves move in every phase"; cancelling takes an order off "in every phase": their questions are the same in each
 pub record InEveryPhase (d : Day) (x : Phase) (lent : ℕ) : Type 0 where

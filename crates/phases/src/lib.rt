@@ -3,7 +3,7 @@ use market::Access;
 use market::Phase;
 ghost use mathlib.Core.Path.{_≡_};
 ghost use Rattle.market.specs.Phases.{admits as admitsCall};
-ghost use Rattle.market.specs.Sound.{isClosing, isCollecting, keptIn};
+ghost use Rattle.market.specs.Sound.{isClosing, isCollecting, isOpen, keptIn};
 
 // Question 6: does the phase allow the call? A case for each phase and call, as in market/specs/Phases (points 70.1 and 70.9).
 pub fn admits(phase: Phase, access: Access) -> bool
@@ -20,6 +20,8 @@ pub fn admits(phase: Phase, access: Access) -> bool
             Access::EndCollecting => false,
             Access::StartClosing => true,
             Access::EndSession => false,
+            Access::Offer => true,
+            Access::NewDay => false,
         },
         Phase::Collecting => match access {
             Access::Kept => true,
@@ -31,6 +33,8 @@ pub fn admits(phase: Phase, access: Access) -> bool
             Access::EndCollecting => true,
             Access::StartClosing => false,
             Access::EndSession => false,
+            Access::Offer => false,
+            Access::NewDay => false,
         },
         Phase::Closing => match access {
             Access::Kept => false,
@@ -42,6 +46,8 @@ pub fn admits(phase: Phase, access: Access) -> bool
             Access::EndCollecting => false,
             Access::StartClosing => false,
             Access::EndSession => true,
+            Access::Offer => false,
+            Access::NewDay => false,
         },
         Phase::Closed => match access {
             Access::Kept => false,
@@ -53,6 +59,8 @@ pub fn admits(phase: Phase, access: Access) -> bool
             Access::EndCollecting => false,
             Access::StartClosing => false,
             Access::EndSession => false,
+            Access::Offer => false,
+            Access::NewDay => true,
         },
     }
 }
@@ -63,6 +71,17 @@ pub fn is_collecting(phase: Phase) -> bool
     match phase {
         Phase::Open => false,
         Phase::Collecting => true,
+        Phase::Closing => false,
+        Phase::Closed => false,
+    }
+}
+
+pub fn is_open(phase: Phase) -> bool
+    ensures { λ r. ⌜ r ≡ isOpen phase ⌝ }
+{
+    match phase {
+        Phase::Open => true,
+        Phase::Collecting => false,
         Phase::Closing => false,
         Phase::Closed => false,
     }

@@ -23,6 +23,6 @@ fn print_parts(text: &[u8], out: &mut [u8]) -> bool
 
 // Whether all of the script went through.
 pub fn print_script(text: &[u8]) -> bool {
-    let mut out = [0u8; 98304];
+    let mut out = [0u8; 131072];
     print_parts(text, &mut out)
 }

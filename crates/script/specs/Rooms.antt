@@ -3,7 +3,7 @@ use Prim.Native.Nat.{ℕ, _+_, _*_, _≤_}
 use mathlib.Core.Path.{_≡_}
 use mathlib.Core.List.{List}
 use lib.ListN.{length}
-use Rattle.market.specs.Limits.{maxCurrencies, maxParticipants, maxSecurities, maxWaiting}
+use Rattle.market.specs.Limits.{maxCurrencies, maxDeals, maxParticipants, maxSecurities, maxWaiting}
 use Rattle.printing.specs.Buffer.{lineRoom, wordedRoom}
 
 -- from place `at` on at most n bytes are put, up to place r; the buffer keeps its length
@@ -26,9 +26,9 @@ codesRoom = wordedRoom 5 1
 abbrev pub sideRoom : ℕ
 sideRoom = 2
 
--- kind and price, and the line's end
+-- kind, price and the line's end; the longest is an offer's, with rate and term
 abbrev pub kindRoom : ℕ
-kindRoom = wordedRoom 2 1
+kindRoom = wordedRoom 6 3
 
 -- a waiting order's line: its word, four numbers, side, kind and price
 abbrev pub waitsRoom : ℕ
@@ -37,18 +37,29 @@ waitsRoom = 5 + 21 * 4 + sideRoom + kindRoom
 abbrev pub accountRoom : ℕ
 accountRoom = wordedRoom 6 2
 
--- the lines of the end but for the market's account
+abbrev pub dateRoom : ℕ
+dateRoom = wordedRoom 4 1
+
+-- an open deal's line: its word and eleven numbers
+abbrev pub dealRoom : ℕ
+dealRoom = wordedRoom 4 11
+
+-- date and open deals
+abbrev pub recordsRoom : ℕ
+recordsRoom = dateRoom + maxDeals * dealRoom
+
+-- the lines of the end but for the market's account and the records
 abbrev pub dayRoom : ℕ
 dayRoom =
     positionsRoom + phaseRoom + maxSecurities * turnoverRoom + codesRoom + maxWaiting * waitsRoom
 
 -- all of them
 abbrev pub endRoom : ℕ
-endRoom = dayRoom + maxCurrencies * accountRoom
+endRoom = dayRoom + maxCurrencies * accountRoom + recordsRoom
 
 -- what a command, with the lines that SHOW prints, or the end take at most
 abbrev pub room : ℕ
-room = 49152
+room = 65536
 
 -- counts within their limits
 pub record Counts (participants currencies securities count : ℕ) : Type 0 where

@@ -1,5 +1,7 @@
-// The lines of the end: positions, phase, turnovers, codes given, waiting orders, the market's account.
+// The lines of the end: positions, phase, turnovers, codes given, waiting orders, the market's account, the records.
+use super::records::put_records;
 use amounts::account_cell;
+use amounts::from_u16;
 use market::Kind;
 use market::MAX_CURRENCIES;
 use market::MAX_PARTICIPANTS;
@@ -10,6 +12,7 @@ use market::Phase;
 use market::Side;
 use market::State;
 use market::Turnover;
+use market::rules_of;
 use printing::put_bytes;
 use printing::put_fields;
 use printing::put_positions;
@@ -67,16 +70,22 @@ fn put_side(out: &mut [u8], at: usize, side: Side) -> usize
     }
 }
 
-// Kind and price; a closing order has none and prints 0.
+// Kind and price; a closing order has none and prints 0. An offer has rate and term besides.
 fn put_kind(out: &mut [u8], at: usize, kind: Kind) -> usize
     requires { ⌜ at + kindRoom ≤ length (now out) ⌝ }
     ensures { λ r. ⌜ Adds kindRoom (now (out .entry)) at (now (out .exit)) r ⌝ }
 {
-    let Kind::Kept(price) = kind else {
-        return put_bytes(out, at, b",P,0\n");
-    };
-    let numbers = [price];
-    put_worded(out, at, b",K", &numbers)
+    match kind {
+        Kind::Kept(price) => {
+            let numbers = [price];
+            put_worded(out, at, b",K", &numbers)
+        }
+        Kind::Closing => put_bytes(out, at, b",P,0\n"),
+        Kind::Offer(rate, term, price) => {
+            let numbers = [price, from_u16(rate), from_u16(term)];
+            put_worded(out, at, b",OFFER", &numbers)
+        }
+    }
 }
 
 fn put_order(out: &mut [u8], at: usize, order: Order) -> usize
@@ -184,5 +193,8 @@ pub fn put_end(out: &mut [u8], at: usize, s: State) -> usize
     }
     let end = put_day(out, at, s);
     let money = s.money;
-    put_accounts(out, end, money, s.currencies)
+    let last = put_accounts(out, end, money, s.currencies);
+    let rules = rules_of(s);
+    let records = s.records;
+    put_records(out, last, rules, records)
 }

@@ -3,6 +3,7 @@
 // by part.
 mod ending;
 mod opening;
+mod records;
 mod words;
 
 use dayfile::MAX_TEXT;
@@ -13,6 +14,7 @@ use heading::MALFORMED;
 use lines::Line;
 use market::Answer;
 use market::Call;
+use market::Dealing;
 use market::LENT_AT_LEAST;
 use market::MAX_MEMBERS;
 use market::MIN_MEMBERS;
@@ -38,7 +40,7 @@ const MAX_LENT: u64 = 4096;
 const MAX_TRADES: u64 = 136;
 
 // What a command, or the lines of the end, take of the buffer at most.
-pub const ROOM: usize = 49152;
+pub const ROOM: usize = 65536;
 
 // How far a script is played: the state, the place where the text goes on and the number of its line there, how much of
 // the buffer is filled, how many numbers are lent, and whether all is printed.
@@ -119,6 +121,28 @@ fn is_wrong_group(call: Call) -> bool {
     MAX_MEMBERS < n
 }
 
+// An act on the records. What follows the call stands here and in `carry_out`: in a function of its own it would copy the state
+// three times more.
+fn deal(p: Play, reading: Reading, dealing: Dealing, trades: &mut [u64], out: &mut [u8]) -> Play
+    requires { ⌜ maxLent ≤ length (now trades) ⌝ }
+    requires { ⌜ Stands p (now out) ⌝ }
+    ensures { λ r. ⌜ Follows room p (reading .next) (now (out .entry)) r (now (out .exit)) ⌝ }
+{
+    let s = p.state;
+    let lent = p.lent;
+    let outcome = engine::deal(s, dealing, &mut trades[..lent]);
+    let answer = outcome.answer;
+    let state = outcome.state;
+    Play {
+        state,
+        at: reading.next,
+        line: std::num::wrapping_add_u64(p.line, reading.lines),
+        filled: put_command(out, p.filled, p.line, answer, trades),
+        lent,
+        over: false,
+    }
+}
+
 // A line of a day file, or a word that is a call; what is read takes as many lines either way.
 fn carry_out(p: Play, reading: Reading, says: Line, trades: &mut [u64], out: &mut [u8]) -> Play
     requires { ⌜ maxLent ≤ length (now trades) ⌝ }
@@ -161,6 +185,7 @@ fn command(text: &[u8], p: Play, trades: &mut [u64], out: &mut [u8]) -> Play
         Word::Lend(n) => lend(p, reading.next, n, out),
         Word::Show => show(p, reading.next, out),
         Word::Call(call) => carry_out(p, reading, Line::Call(call), trades, out),
+        Word::Dealing(dealing) => deal(p, reading, dealing, trades, out),
         Word::Other => carry_out(p, reading, says, trades, out),
     }
 }

@@ -2,7 +2,10 @@
 use lines::Value;
 use lines::number;
 use market::Call;
+use market::Dealing;
 use market::Session;
+use market::Side;
+use market::Ticket;
 ghost use Prim.Native.Nat.{_≤_, _<_};
 ghost use lib.ListN.{length};
 
@@ -17,6 +20,8 @@ pub enum Word {
     Show,
     // A call that a day file can't make.
     Call(Call),
+    // An act on the records.
+    Dealing(Dealing),
     // None of them: a line of a day file, or malformed.
     Other,
 }
@@ -35,13 +40,13 @@ fn is_same(a: &[u8], b: &[u8]) -> bool {
     true
 }
 
-// No line of a script has more numbers.
-const MAX_NUMBERS: usize = 4;
+// No line of a script has more numbers in a row.
+const MAX_NUMBERS: usize = 5;
 
 // The numbers of a line, each behind a comma, and how many there are; 0 in the places after them.
 pub struct Numbers {
     pub count: usize,
-    pub list: [u64; 4],
+    pub list: [u64; 5],
 }
 
 // The numbers from `from` to the line's end; none where something else stands there.
@@ -50,9 +55,9 @@ pub fn numbers_from(line: &[u8], from: usize) -> Numbers
 {
     let none = Numbers {
         count: 0,
-        list: [0; 4],
+        list: [0; 5],
     };
-    let mut list = [0u64; 4];
+    let mut list = [0u64; 5];
     let mut count: usize = 0;
     let mut at = from;
     while at < line.len() {
@@ -74,15 +79,62 @@ pub fn numbers_from(line: &[u8], from: usize) -> Numbers
     Numbers { count, list }
 }
 
-// `LENT,n`, whose first field ends at `end`.
-fn lend_word(line: &[u8], end: usize) -> Word
+// An offer, with security, price, lots, rate and term.
+fn offer(participant: u64, side: Side, list: [u64; 5]) -> Word {
+    let ticket = Ticket {
+        side,
+        security: list[0],
+        price: list[1],
+        lots: list[2],
+    };
+    Word::Dealing(Dealing::Offer(participant, ticket, list[3], list[4]))
+}
+
+// The same, the side by its letter.
+fn lettered_offer(participant: u64, letter: u8, list: [u64; 5]) -> Word {
+    match letter {
+        b'B' => offer(participant, Side::Buy, list),
+        b'L' => offer(participant, Side::Sell, list),
+        _ => Word::Other,
+    }
+}
+
+// `OFFER,participant,side,security,price,lots,rate,term`, whose first field ends at `end`. The side is one byte: behind it
+// stands the next comma.
+fn offer_word(line: &[u8], end: usize) -> Word
     requires { ⌜ end ≤ length (now line) ⌝ }
 {
-    let numbers = numbers_from(line, end);
-    if numbers.count != 1 {
+    if line.len() <= end {
         return Word::Other;
     }
-    Word::Lend(numbers.list[0])
+    let start = end + 1;
+    let at = bytes::scan::find(line, start, line.len(), COMMA);
+    let Value::Good(participant) = number(&line[start..at]) else {
+        return Word::Other;
+    };
+    if line.len() - at < 2 {
+        return Word::Other;
+    }
+    let numbers = numbers_from(line, at + 2);
+    if numbers.count != MAX_NUMBERS {
+        return Word::Other;
+    }
+    let list = numbers.list;
+    lettered_offer(participant, line[at + 1], list)
+}
+
+// The word that has one number.
+fn counted_word(word: &[u8], n: u64) -> Word {
+    if is_same(word, b"LENT") {
+        return Word::Lend(n);
+    }
+    if is_same(word, b"SECOND") {
+        return Word::Dealing(Dealing::SecondPart(n));
+    }
+    if is_same(word, b"DAY") {
+        return Word::Dealing(Dealing::NewDay(n));
+    }
+    Word::Other
 }
 
 // A line's word, where it has that word's fields.
@@ -97,10 +149,14 @@ fn word_of(line: &[u8]) -> Word {
         return Word::Call(Call::End(Session::Collecting));
     }
     let end = bytes::scan::find(line, 0, line.len(), COMMA);
-    if is_same(&line[..end], b"LENT") {
-        return lend_word(line, end);
+    if is_same(&line[..end], b"OFFER") {
+        return offer_word(line, end);
     }
-    Word::Other
+    let numbers = numbers_from(line, end);
+    if numbers.count != 1 {
+        return Word::Other;
+    }
+    counted_word(&line[..end], numbers.list[0])
 }
 
 pub fn word_at(text: &[u8], at: usize) -> Word

@@ -1,6 +1,7 @@
 // Is a state sound? Asked of any values at all, before anything is reckoned from them.
 use amounts::account_in;
 use amounts::cell_of;
+use amounts::from_u16;
 use amounts::need_of;
 use amounts::price_sound;
 use amounts::within;
@@ -12,12 +13,14 @@ use market::MAX_CURRENCIES;
 use market::MAX_LOT;
 use market::MAX_LOTS;
 use market::MAX_NOMINAL;
+use market::MAX_OFFER_RATE;
 use market::MAX_PARTICIPANTS;
 use market::MAX_PIECES;
 use market::MAX_PRICE;
 use market::MAX_RATE;
 use market::MAX_SECURITIES;
 use market::MAX_STEP;
+use market::MAX_TERM;
 use market::MAX_WAITING;
 use market::MIN_NOMINAL;
 use market::MONEY_LIMIT;
@@ -29,6 +32,7 @@ use market::Side;
 use market::State;
 use market::Turnover;
 use phases::is_closing;
+use phases::is_open;
 use phases::kept_in;
 ghost use mathlib.Core.Path.{_≡_};
 ghost use mathlib.Core.Bool.{true};
@@ -39,7 +43,7 @@ ghost use Rattle.market.specs.Tests.{_and_, allBelow, known};
 ghost use Rattle.market.specs.Day.{noSecurity, turnoverAt};
 ghost use Rattle.market.specs.View.{view};
 ghost use Rattle.market.specs.Sound.{countsSound, kindSound, lotsSound, nominalSound, rowSound, securitySound, sound};
-ghost use Rattle.market.specs.Sound.{turnoverSound};
+ghost use Rattle.market.specs.Sound.{offerSound, turnoverSound};
 ghost use Rattle.soundness.specs.Parts.{Checked, columnSound, lentDay, needCellFor, orderly, ordersDay};
 
 // Needs of pieces stand this many cells behind those of money.
@@ -134,6 +138,23 @@ fn turnovers_sound(codes: u64, securities: u64, turnovers: [Turnover; 16]) -> bo
     true
 }
 
+// May a repurchase offer wait in this phase, at this price, rate and term?
+fn offer_sound(phase: Phase, row: Security, price: u64, rate: u64, term: u64) -> bool
+    requires { ⌜ 0 < row .step ⌝ }
+    ensures { λ r. ⌜ r ≡ offerSound phase row price rate term ⌝ }
+{
+    if !is_open(phase) {
+        return false;
+    }
+    if !price_sound(row, price) {
+        return false;
+    }
+    if MAX_OFFER_RATE < rate {
+        return false;
+    }
+    within(1, MAX_TERM, term)
+}
+
 // May an order of this kind wait in this phase, at its price, in a security so traded?
 fn kind_sound(phase: Phase, row: Security, turnover: Turnover, kind: Kind) -> bool
     requires { ⌜ 0 < row .step ⌝ }
@@ -151,6 +172,9 @@ fn kind_sound(phase: Phase, row: Security, turnover: Turnover, kind: Kind) -> bo
                 return false;
             }
             0 < turnover.pieces
+        }
+        Kind::Offer(rate, term, price) => {
+            offer_sound(phase, row, price, from_u16(rate), from_u16(term))
         }
     }
 }

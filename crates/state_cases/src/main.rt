@@ -1,5 +1,29 @@
-// Cases that no script can say, run on the engine: states made by hand, what lies past the counts, a million codes,
-// numbers too long for a line, and what a call leaves as it was. Lot 10, step 5.
+// Cases of the trading day that no script can say, run on the engine: states made by hand, what lies past the counts, a million
+// codes, numbers too long for a line, and what a call leaves as it was.
+use case_states::after;
+use case_states::asked;
+use case_states::asked_closing;
+use case_states::asked_collecting;
+use case_states::asked_kind;
+use case_states::bond;
+use case_states::bought;
+use case_states::buy;
+use case_states::day;
+use case_states::funded;
+use case_states::in_phase;
+use case_states::kept;
+use case_states::money;
+use case_states::numbers;
+use case_states::order;
+use case_states::position;
+use case_states::sell;
+use case_states::sell_order;
+use case_states::table;
+use case_states::traded;
+use case_states::waiting;
+use case_states::with_money;
+use case_states::with_pieces;
+use case_states::with_unread;
 use engine::decrease_pieces;
 use engine::end_collecting;
 use engine::end_session;
@@ -10,12 +34,8 @@ use engine::increase_pieces;
 use engine::opening;
 use engine::start_closing;
 use engine::start_collecting;
-use host::enter_order;
-use libc::STDOUT_FILENO;
-use market::Answer;
 use market::Kind;
 use market::Order;
-use market::Outcome;
 use market::Phase;
 use market::Security;
 use market::Side;
@@ -23,132 +43,6 @@ use market::State;
 use market::Ticket;
 use market::TimeInForce;
 use market::Turnover;
-use market::book_of;
-use market::state_of;
-
-// Printing: a label, then an answer, a position or eight numbers of the trade list.
-fn text(bytes: &[u8]) {
-    io::write_all(STDOUT_FILENO, bytes);
-}
-
-fn number(x: u64) {
-    text(b",");
-    io::print_decimal(STDOUT_FILENO, x);
-}
-
-fn four(a: u64, b: u64, c: u64, d: u64) {
-    number(a);
-    number(b);
-    number(c);
-    number(d);
-}
-
-fn refusal(label: &[u8], number_of: u64, place: u64) {
-    text(label);
-    number(number_of);
-    number(place);
-    text(b",0,0,0,0\n");
-}
-
-fn done(label: &[u8], code: u64, filled: u64, left: u64, trades: u64) {
-    text(label);
-    text(b",0,0");
-    four(code, filled, left, trades);
-    text(b"\n");
-}
-
-// An answer as the day file prints it: refusal, place, code, filled, left, trades.
-fn answer(label: &[u8], a: Answer) {
-    match a {
-        Answer::Refused(number_of, place) => refusal(label, number_of, place),
-        Answer::Done(code, filled, left, trades) => done(label, code, filled, left, trades),
-    }
-}
-
-// Prints the answer and goes on with the state.
-fn after(label: &[u8], o: Outcome) -> State {
-    let a = o.answer;
-    answer(label, a);
-    o.state
-}
-
-fn position(label: &[u8], free: u64, blocked: u64) {
-    text(label);
-    number(free);
-    number(blocked);
-    text(b"\n");
-}
-
-// Free and blocked money at participant * 16 + currency.
-fn money(label: &[u8], s: State, place: usize) {
-    if place < 272 {
-        position(label, s.money[2 * place], s.money[2 * place + 1]);
-    }
-}
-
-// Eight numbers of the trade list from `first` on, as many as one trade takes.
-fn numbers(label: &[u8], trades: &[u64], first: usize) {
-    if trades.len() < 8 {
-        return;
-    }
-    if trades.len() - 8 < first {
-        return;
-    }
-    text(label);
-    four(
-        trades[first],
-        trades[first + 1],
-        trades[first + 2],
-        trades[first + 3],
-    );
-    four(
-        trades[first + 4],
-        trades[first + 5],
-        trades[first + 6],
-        trades[first + 7],
-    );
-    text(b"\n");
-}
-
-// The day that all cases start from: two participants, currencies and securities.
-fn table() -> [Security; 16] {
-    [Security {
-        currency: 0,
-        lot: 10,
-        step: 5,
-        nominal: 0,
-    }; 16]
-}
-
-fn day() -> State {
-    let o = opening(2, 2, 2, table(), 0);
-    o.state
-}
-
-// The state with this money at participant * 16 + currency.
-fn with_money(s: State, place: usize, free: u64, blocked: u64) -> State {
-    let mut t = s;
-    if place < 272 {
-        t.money[2 * place] = free;
-        t.money[2 * place + 1] = blocked;
-    }
-    t
-}
-
-// The state with these pieces at participant * 16 + security.
-fn with_pieces(s: State, place: usize, free: u64, blocked: u64) -> State {
-    let mut t = s;
-    if place < 272 {
-        t.pieces[2 * place] = free;
-        t.pieces[2 * place + 1] = blocked;
-    }
-    t
-}
-
-// Question 1, of a state made by hand.
-fn asked(label: &[u8], s: State) {
-    after(label, increase_money(s, 0, 0, 1));
-}
 
 fn line_past_the_count() {
     let mut lines = table();
@@ -160,12 +54,12 @@ fn line_past_the_count() {
     };
     after(
         b"a wrong line past the count is not read",
-        opening(1, 1, 1, lines, 0),
+        opening(1, 1, 1, lines, 0, 0),
     );
 }
 
 fn refused_opening_is_unsound() {
-    let s = after(b"refused opening: 17", opening(0, 0, 0, table(), 0));
+    let s = after(b"refused opening: 17", opening(0, 0, 0, table(), 0, 0));
     after(b"its state: 1", increase_money(s, 0, 0, 1));
 }
 
@@ -208,16 +102,6 @@ fn unsound_lines() {
     asked_line(b"step 0: 1", 0, 10, 0);
 }
 
-// A security of currency 0, lot 10 and step 5 with this nominal.
-fn bond(nominal: u64) -> Security {
-    Security {
-        currency: 0,
-        lot: 10,
-        step: 5,
-        nominal,
-    }
-}
-
 fn asked_nominal(label: &[u8], nominal: u64) {
     let mut s = day();
     s.table[1] = bond(nominal);
@@ -252,26 +136,6 @@ fn unsound_turnover() {
     asked_turnover(b"more than 1000000 a piece: 1", 1, 10, 10000001);
 }
 
-fn sell_order(code: u64, participant: u64, security: u64, lots: u64, kind: Kind) -> Order {
-    Order {
-        code,
-        participant,
-        side: Side::Sell,
-        security,
-        lots,
-        kind,
-    }
-}
-
-// 4 codes given, 100 pieces of participant 1 in security 0 blocked, this order waiting.
-fn waiting(o: Order) -> State {
-    let mut s = with_pieces(day(), 16, 0, 100);
-    s.codes = 4;
-    s.orders[0] = o;
-    s.count = 1;
-    s
-}
-
 fn asked_order(label: &[u8], code: u64, participant: u64, security: u64, lots: u64) {
     let o = sell_order(code, participant, security, lots, Kind::Kept(95));
     asked(label, waiting(o));
@@ -290,10 +154,6 @@ fn order_lots() {
     asked_order(b"10001 lots: 1", 3, 1, 0, 10001);
 }
 
-fn asked_kind(label: &[u8], kind: Kind) {
-    asked(label, waiting(sell_order(3, 1, 0, 10, kind)));
-}
-
 fn kinds_while_open() {
     asked_kind(b"price 0: 1", Kind::Kept(0));
     asked_kind(b"price off the step: 1", Kind::Kept(96));
@@ -301,7 +161,7 @@ fn kinds_while_open() {
     asked_kind(b"a closing order while open: 1", Kind::Closing);
 }
 
-// The same order in a security with a nominal; and a buy of 10 lots at 9950, with this blocked.
+// The waiting order in a security with a nominal; and a buy of 10 lots at 9950, with this blocked.
 fn asked_percent(label: &[u8], price: u64) {
     let mut s = waiting(sell_order(3, 1, 0, 10, Kind::Kept(price)));
     s.table[0] = bond(10000);
@@ -330,24 +190,6 @@ fn percent_orders() {
     asked_percent_buy(b"9950099 blocked for 9950099.5, sound", 9950099);
     asked_percent_buy(b"a unit more: 1", 9950100);
     asked_percent_buy(b"price times pieces blocked: 1", 995000);
-}
-
-// The same order in a phase, with this Q and T of its security.
-fn in_phase(phase: Phase, kind: Kind, pieces: u64, value: u64) -> State {
-    let s = waiting(sell_order(3, 1, 0, 10, kind));
-    let cash = s.money;
-    let stock = s.pieces;
-    let mut t = state_of(s, phase, cash, stock, book_of(s));
-    t.turnover[0] = Turnover { pieces, value };
-    t
-}
-
-fn asked_closing(label: &[u8], kind: Kind, pieces: u64, value: u64) {
-    asked(label, in_phase(Phase::Closing, kind, pieces, value));
-}
-
-fn asked_collecting(label: &[u8], kind: Kind, pieces: u64, value: u64) {
-    asked(label, in_phase(Phase::Collecting, kind, pieces, value));
 }
 
 fn kinds_while_closing() {
@@ -457,7 +299,7 @@ fn increases_beside_an_account() {
 // A security's total is over participants alone: what stands in the market's row of pieces is not read. One participant,
 // one security.
 fn pieces_in_the_markets_row() {
-    let o = opening(1, 1, 1, table(), 0);
+    let o = opening(1, 1, 1, table(), 0, 0);
     let s = with_pieces(o.state, 256, 1, 0);
     after(
         b"pieces at their limit, one more in the market's row, sound",
@@ -470,23 +312,11 @@ fn pieces_in_the_markets_row() {
     after(b"and by one more: 9", increase_pieces(s, 0, 0, 1));
 }
 
-// A day with anything past its counts.
-fn with_unread() -> State {
-    let s = with_money(day(), 2, 18446744073709551615, 7);
-    let s = with_money(s, 32, 18446744073709551615, 7);
-    let mut s = with_pieces(s, 2, 18446744073709551615, 7);
-    s.table[2] = Security {
-        currency: 99,
-        lot: 0,
-        step: 0,
-        nominal: 18446744073709551615,
-    };
-    s.turnover[2] = Turnover {
-        pieces: 18446744073709551615,
-        value: 0,
-    };
-    s.orders[0] = sell_order(18446744073709551615, 99, 99, 0, Kind::Closing);
-    s
+// Price and first day of the deal at the list's last place.
+fn last_deal(label: &[u8], s: State) {
+    let records = s.records;
+    let x = records.deals[63];
+    position(label, x.price as u64, x.first as u64);
 }
 
 fn unread() {
@@ -495,82 +325,17 @@ fn unread() {
         increase_money(with_unread(), 0, 0, 1),
     );
     money(b"an unknown currency's position stays", s, 2);
+    last_deal(b"a deal past the count stays", s);
 }
 
 // A refusal hands back the very state, sound or not.
 fn handed_back() {
     let s = after(b"amount 0: 7", increase_money(with_unread(), 0, 0, 0));
     money(b"what is not read is handed back", s, 32);
+    last_deal(b"a deal past the count, too", s);
     let s = with_money(day(), 16, 5, 1);
     let s = after(b"money blocked for no order: 1", increase_money(s, 1, 0, 1));
     money(b"and handed back", s, 16);
-}
-
-// Participant 0 has 100000 in money, participant 1 has 200 pieces of security 0.
-fn funded() -> State {
-    let o = increase_money(day(), 0, 0, 100000);
-    let o = increase_pieces(o.state, 1, 0, 200);
-    o.state
-}
-
-fn buy(security: u64, price: u64, lots: u64) -> Ticket {
-    Ticket {
-        side: Side::Buy,
-        security,
-        price,
-        lots,
-    }
-}
-
-fn sell(security: u64, price: u64, lots: u64) -> Ticket {
-    Ticket {
-        side: Side::Sell,
-        security,
-        price,
-        lots,
-    }
-}
-
-// An order lent a list of sevens: its first trade and the 8 numbers behind it.
-fn traded(label: &[u8], s: State, participant: u64, t: Ticket, force: TimeInForce) -> State {
-    let mut trades = [7u64; 1088];
-    let side = t.side;
-    let o = enter_order(
-        s,
-        participant,
-        side,
-        t.security,
-        t.price,
-        t.lots,
-        force,
-        &mut trades,
-    );
-    let s = after(label, o);
-    numbers(label, &trades, 0);
-    numbers(b"the next 8 numbers", &trades, 8);
-    s
-}
-
-// A kept order whose trades are not looked at.
-fn order(s: State, participant: u64, t: Ticket) -> Outcome {
-    let mut trades = [0u64; 1088];
-    let side = t.side;
-    let force = TimeInForce::Kept;
-    enter_order(
-        s,
-        participant,
-        side,
-        t.security,
-        t.price,
-        t.lots,
-        force,
-        &mut trades,
-    )
-}
-
-fn kept(s: State, participant: u64, t: Ticket) -> State {
-    let o = order(s, participant, t);
-    o.state
 }
 
 fn one_trade() {
@@ -602,10 +367,6 @@ fn priorities() {
     let s = bought_at_once(b"the cheaper one, of two the earlier", three_sells(), 4);
     let s = bought_at_once(b"its last lot, then the next", s, 6);
     bought_at_once(b"then the dearer one", s, 6);
-}
-
-fn bought(label: &[u8], s: State) {
-    after(label, order(s, 0, buy(0, 5, 1)));
 }
 
 fn order_codes() {
@@ -755,7 +516,7 @@ fn largest_closing() -> State {
         step: 1,
         nominal: 500000,
     };
-    let o = opening(2, 1, 1, [row; 16], 1000);
+    let o = opening(2, 1, 1, [row; 16], 1000, 0);
     let o = increase_money(o.state, 0, 0, 505000000000000);
     let o = increase_pieces(o.state, 1, 0, 10000000);
     let o = start_closing(o.state);

@@ -1,10 +1,12 @@
 //! Speed of the engine beside the model, on the same day files in one run, and
-//! on scripts for what day files don't know. Times are medians of processor time, and include the reading of the lines
-//! and the printing of the answers in both.
+//! on scripts for what day files don't know. Times are medians of processor
+//! time, and include the reading of the lines and the printing of the answers in
+//! both.
 
 use std::hint::black_box;
 
 use model::dayfile::{output_of, run_day, run_text, script_output};
+use model::engine::DEAL_LIMIT;
 use model::generate::good_long_day;
 use model::level::SCRIPT;
 use model::tally::Tally;
@@ -15,6 +17,8 @@ use crate::engine_under_test::{EngineUnderTest, Form};
 const LONG_DAYS: u64 = 50;
 const ORDERS: usize = 1_000;
 const GROUPS: usize = 200;
+const OFFERS: usize = 500;
+const DEAL_DAYS: usize = 10;
 
 /// Many short samples, so that other work on the machine spoils few of them.
 const LONG_DAY_ROUNDS: usize = 11;
@@ -180,7 +184,9 @@ pub fn bench() -> Result<(), String> {
     }
     bench_groups(&mut runner)?;
     bench_session_end(&mut runner)?;
-    bench_auctions(&mut runner)
+    bench_auctions(&mut runner)?;
+    bench_offers(&mut runner)?;
+    bench_deals(&mut runner)
 }
 
 fn bench_long_days(runner: &mut Runner) -> Result<(), String> {
@@ -257,7 +263,7 @@ fn bench_auctions(runner: &mut Runner) -> Result<(), String> {
             END_REPEATS,
         )?;
         let name = format!("auction, 128 orders, {securities} securities, ns");
-        print_script_row(&name, times);
+        print_script_row(&name, times, 1);
     }
     Ok(())
 }
@@ -282,6 +288,38 @@ fn collected(securities: usize) -> String {
     setup
 }
 
+/// Offers that nobody meets, each cancelled, so that as many wait before the
+/// next.
+fn bench_offers(runner: &mut Runner) -> Result<(), String> {
+    for waiting in [0, 32, 127] {
+        let sells = "OFFER,1,L,0,200,1,500,7\n".repeat(waiting);
+        let setup = [&setup(0), &sells[..]].concat();
+        let codes = waiting + 1..=waiting + OFFERS;
+        let offers: String = codes
+            .map(|code| format!("OFFER,0,B,0,200,1,500,8\nX,0,{code}\n"))
+            .collect();
+        let times = runner.measure_more(SCRIPT_SUBJECTS, script_output, &setup, &offers, 1)?;
+        let name = format!("offer and cancellation, {waiting} waiting, ns");
+        print_script_row(&name, times, OFFERS);
+    }
+    Ok(())
+}
+
+/// On each day as many deals as can be open, which end on the next, so that the
+/// end prints none. Closing and the new day are divided among them.
+fn bench_deals(runner: &mut Runner) -> Result<(), String> {
+    let setup = [&setup(0), "R,1,0,1000000000\n"].concat();
+    let offers = "OFFER,1,L,0,200,1,500,1\nOFFER,0,B,0,200,1,500,1\n".repeat(DEAL_LIMIT);
+    let second_parts = "SECOND,1\n".repeat(DEAL_LIMIT);
+    let days: String = (1..=DEAL_DAYS)
+        .map(|date| format!("{offers}C\nZ\nDAY,{date}\n{second_parts}"))
+        .collect();
+    let times = runner.measure_more(SCRIPT_SUBJECTS, script_output, &setup, &days, 1)?;
+    let name = "offer, one that meets it, second part, ns";
+    print_script_row(name, times, DEAL_DAYS * DEAL_LIMIT);
+    Ok(())
+}
+
 fn print_nanoseconds(name: &str, times: Times, count: usize) {
     let nanoseconds = times.map(|seconds| seconds * 1e9 / count as f64);
     print_row(name, nanoseconds, times);
@@ -297,12 +335,13 @@ fn print_row(name: &str, shown: Times, times: Times) {
 }
 
 /// Without the columns of what is known by proof.
-fn print_script_row(name: &str, [engine, model]: [f64; SCRIPT_SUBJECTS.len()]) {
+fn print_script_row(name: &str, times: [f64; SCRIPT_SUBJECTS.len()], count: usize) {
+    let [engine, model] = times.map(|seconds| seconds * 1e9 / count as f64);
     println!(
         "{name:42}{:31}{:12.0}{:12.0}{:7.2}",
         "",
-        engine * 1e9,
-        model * 1e9,
+        engine,
+        model,
         engine / model
     );
 }

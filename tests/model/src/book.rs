@@ -1,8 +1,10 @@
 //! The book of demand 3. It is fed the opening's arguments and each call's
 //! arguments, answer and trades, and nothing from the state.
 
+mod repurchase;
+
 use crate::calls::{
-    Answer, Call, ClosingEntry, Done, Entry, EntryKind, Member, Movement, Opening, Phase,
+    Answer, Call, ClosingEntry, Deal, Done, Entry, EntryKind, Member, Movement, Opening, Phase,
     SecurityLine, Side, Trade, WaitingKind, WaitingOrder,
 };
 use crate::engine::{Engine, Position, Traded};
@@ -28,6 +30,8 @@ pub struct Book {
     traded: Vec<BookedTrades>,
     phase: Phase,
     waiting: Vec<WaitingOrder>,
+    date: u64,
+    deals: Vec<Deal>,
 }
 
 /// Q and T of one security.
@@ -70,6 +74,8 @@ impl Book {
             traded: vec![BookedTrades::default(); securities],
             phase: Phase::Open,
             waiting: Vec::new(),
+            date: opening.date,
+            deals: Vec::new(),
         }
     }
 
@@ -86,10 +92,15 @@ impl Book {
             Call::PiecesDown(movement) => self.move_pieces(movement, -1)?,
             Call::Enter(entry) if entry.kind == EntryKind::Kept => self.keep(entry, done.code)?,
             Call::EnterClosing(entry) => self.keep_closing(entry, done.code)?,
+            Call::EnterOffer(offer) => self.keep_offer(offer, done.code)?,
             _ => {}
         }
         for trade in trades {
             self.book_trade(trade)?;
+            match call {
+                Call::EnterOffer(offer) => self.open_deal(offer, trade)?,
+                _ => self.count(trade),
+            }
         }
         match call {
             Call::Cancel { participant, code } => self.take_off(*participant, *code),
@@ -97,6 +108,8 @@ impl Book {
             Call::EndCollecting => self.turn_to(Phase::Open),
             Call::StartClosing => self.turn_to(Phase::Closing),
             Call::EndSession => self.turn_to(Phase::Closed),
+            Call::SecondPart { place } => self.end_deal(*place)?,
+            Call::NewDay { date } => self.begin_day(*date)?,
             _ => {}
         }
         Ok(())
@@ -160,12 +173,20 @@ impl Book {
         self.market[currency] += fee + fee;
         self.pieces[seller][security] -= pieces;
         self.pieces[buyer][security] += pieces;
-        if self.phase == Phase::Open {
-            self.traded[security].pieces += pieces;
-            self.traded[security].turnover += value;
-        }
         self.take_lots(Side::Buy, buyer, trade.buy_code, trade.lots)?;
         self.take_lots(Side::Sell, seller, trade.sell_code, trade.lots)
+    }
+
+    /// While open a trade, but no first part, adds to Q and T.
+    fn count(&mut self, trade: &Trade) {
+        if self.phase != Phase::Open {
+            return;
+        }
+        let security = trade.security as usize;
+        let pieces = i128::from(trade.lots) * i128::from(self.securities[security].lot_size);
+        let traded = &mut self.traded[security];
+        traded.pieces += pieces;
+        traded.turnover += i128::from(trade.price) * pieces;
     }
 
     /// Takes a trade's lots off the order, where it waits.
@@ -214,6 +235,10 @@ impl Book {
                 participant,
                 members,
             } => check_members(*participant, members, done, trades),
+            Call::EnterOffer(offer) => self.check_offer(offer, done, trades),
+            Call::SecondPart { .. } | Call::NewDay { .. } => {
+                expect(*done == Done::default(), || format!("{done:?}, not zeros"))
+            }
             _ => Ok(()),
         }
     }
@@ -248,6 +273,10 @@ impl Book {
         self.securities.len()
     }
 
+    pub fn phase(&self) -> Phase {
+        self.phase
+    }
+
     pub fn orders_waiting(&self) -> usize {
         self.waiting.len()
     }
@@ -262,6 +291,8 @@ impl Book {
         for currency in 0..self.currencies {
             self.compare_market(currency, engine.account(currency))?;
         }
+        self.compare_date(engine.date())?;
+        self.compare_deals(engine.deals())?;
         self.compare_positions(engine)
     }
 
@@ -277,7 +308,8 @@ impl Book {
         })
     }
 
-    /// In continuous trading no waiting buy reaches a waiting sell.
+    /// In continuous trading no waiting buy reaches a waiting sell; offers aren't
+    /// meant.
     pub fn check_uncrossed(&self) -> Checked {
         if self.phase != Phase::Open {
             return Ok(());
@@ -300,7 +332,7 @@ impl Book {
         let of_side = waiting.filter(move |order| order.side == side && order.security == security);
         of_side.filter_map(|order| match order.kind {
             WaitingKind::Kept(price) => Some(price),
-            WaitingKind::Closing => None,
+            WaitingKind::Closing | WaitingKind::Offer(_) => None,
         })
     }
 
@@ -374,6 +406,7 @@ impl Book {
             let price = match order.kind {
                 WaitingKind::Kept(price) => i128::from(price),
                 WaitingKind::Closing => self.closing_price(order.security),
+                WaitingKind::Offer(terms) => i128::from(terms.price),
             };
             let currency = line.currency as usize;
             let sum = sum_of(price * pieces, line);

@@ -17,6 +17,7 @@ pub mod refusal {
     pub const CODES_USED_UP: u64 = 13;
     pub const FREE_FOR_ORDER: u64 = 14;
     pub const NOT_FILLABLE: u64 = 15;
+    /// Or no such open deal.
     pub const NO_SUCH_ORDER: u64 = 16;
     pub const COUNTS: u64 = 17;
     pub const SECURITY_LINE: u64 = 18;
@@ -25,6 +26,9 @@ pub mod refusal {
     pub const CODE_GIVEN: u64 = 21;
     pub const RATE: u64 = 22;
     pub const NOMINAL: u64 = 23;
+    pub const DATE: u64 = 24;
+    pub const RATE_OR_FIRST_SUM: u64 = 25;
+    pub const DEALS_FULL: u64 = 26;
 }
 
 #[derive(Clone, Copy, PartialEq, Eq, Debug)]
@@ -48,11 +52,22 @@ pub enum Phase {
     Closed,
 }
 
-/// Only a kept order has a price of its own.
+/// What a repurchase offer names besides its security and lots: the price, the
+/// rate in hundredths of a percent a year, and the term in days.
+#[derive(Clone, Copy, PartialEq, Eq, Debug)]
+pub struct Terms {
+    pub price: u64,
+    pub rate: u64,
+    pub term: u64,
+}
+
+/// A closing order alone has no price of its own. An offer waits among the
+/// orders, and meets none of them.
 #[derive(Clone, Copy, PartialEq, Eq, Debug)]
 pub enum WaitingKind {
     Kept(u64),
     Closing,
+    Offer(Terms),
 }
 
 #[derive(Clone, Copy, PartialEq, Eq, Debug)]
@@ -63,6 +78,24 @@ pub struct WaitingOrder {
     pub security: usize,
     pub lots: u64,
     pub kind: WaitingKind,
+}
+
+/// A repurchase deal whose second part is still to come. Buyer and seller are
+/// those of the first part.
+#[derive(Clone, Copy, PartialEq, Eq, Debug)]
+pub struct Deal {
+    pub buyer: usize,
+    pub seller: usize,
+    pub security: usize,
+    pub lots: u64,
+    pub terms: Terms,
+    pub first_day: u64,
+}
+
+impl Deal {
+    pub fn due_day(&self) -> u64 {
+        self.first_day + self.terms.term
+    }
 }
 
 #[derive(Clone, Copy, PartialEq, Eq, Debug)]
@@ -82,6 +115,8 @@ pub struct Opening {
     pub securities: Vec<SecurityLine>,
     /// Of the tariff, in hundred-thousandths of a trade's sum.
     pub rate: u64,
+    /// In days from 1 January 1970.
+    pub date: u64,
 }
 
 #[derive(Clone, Copy, PartialEq, Eq, Debug)]
@@ -100,6 +135,15 @@ pub struct ClosingEntry {
     pub side: Side,
     pub security: u64,
     pub lots: u64,
+}
+
+#[derive(Clone, Copy, PartialEq, Eq, Debug)]
+pub struct Offer {
+    pub participant: u64,
+    pub side: Side,
+    pub security: u64,
+    pub lots: u64,
+    pub terms: Terms,
 }
 
 /// One order of a linked group; its participant is the group's.
@@ -140,15 +184,28 @@ pub enum Call {
     StartClosing,
     EnterClosing(ClosingEntry),
     EndSession,
+    EnterOffer(Offer),
+    /// Of the open deal at this place, from 1.
+    SecondPart {
+        place: u64,
+    },
+    NewDay {
+        date: u64,
+    },
 }
 
 impl Call {
-    /// Orders, groups, the end of collecting and the session's end are lent a
-    /// list for their trades. A closing order writes none.
+    /// Orders, offers, groups, the end of collecting and the session's end are
+    /// lent a list for their trades. A closing order writes none, nor does a
+    /// second part.
     pub fn writes_trades(&self) -> bool {
         matches!(
             self,
-            Call::Enter(_) | Call::Group { .. } | Call::EndCollecting | Call::EndSession
+            Call::Enter(_)
+                | Call::EnterOffer(_)
+                | Call::Group { .. }
+                | Call::EndCollecting
+                | Call::EndSession
         )
     }
 }

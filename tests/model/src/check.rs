@@ -23,6 +23,7 @@ impl Observer for Checker<'_> {
     fn called(&mut self, line: u64, call: &Call, answer: &Answer, trades: &[Trade]) {
         self.line = line;
         self.tally.count_call(call, answer);
+        self.count_second_part(call, answer);
         if let Some(book) = &mut self.book {
             let fed = book.feed(call, answer, trades);
             self.note(fed);
@@ -38,6 +39,14 @@ impl Observer for Checker<'_> {
 }
 
 impl Checker<'_> {
+    /// By the book as it is before the call.
+    fn count_second_part(&mut self, call: &Call, answer: &Answer) {
+        if let (Call::SecondPart { place }, Ok(_), Some(book)) = (call, answer, &self.book) {
+            let days_late = book.days_late(*place).unwrap_or(0);
+            self.tally.count_second_part(book.phase(), days_late);
+        }
+    }
+
     fn note(&mut self, checked: Checked) {
         if let (Err(fault), None) = (checked, &self.fault) {
             self.fault = Some(format!("line {}: {fault}", self.line));

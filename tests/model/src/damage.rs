@@ -60,7 +60,7 @@ const LINES: [&str; 30] = [
 ];
 
 /// Words of scripts, in good form and in bad, of this level and of later ones.
-const SCRIPT_LINES: [&str; 51] = [
+const SCRIPT_LINES: [&str; 78] = [
     "SHOW",
     "SHOW",
     "SHOW",
@@ -98,8 +98,35 @@ const SCRIPT_LINES: [&str; 51] = [
     "AUCTION,1",
     "AUCTIO",
     "OFFER,0,B,0,100,1,500,7",
+    "OFFER,1,L,0,100,1,500,7",
+    "OFFER,0,L,0,100,1,500,7",
+    "OFFER,0,B,0,100,1,5001,7",
+    "OFFER,0,B,0,100,1,500,366",
+    "OFFER,0,B,0,100,1,500,0",
+    "OFFER,0,B,0,100,1,500",
+    "OFFER,0,B,0,100,1,500,7,",
+    "OFFER,0,B,0,100,1,500,7,K",
+    "OFFER,0,b,0,100,1,500,7",
+    "OFFER,B,0,0,100,1,500,7",
+    "OFFER,0,B,0,100,1,0500,7",
+    "OFFERS,0,B,0,100,1,500,7",
+    "OFFER",
+    "offer,0,B,0,100,1,500,7",
     "SECOND,1",
+    "SECOND,1",
+    "SECOND,0",
+    "SECOND,01",
+    "SECOND,",
+    "SECOND",
+    "SECOND,1,1",
+    "SECONDS,1",
     "DAY,60",
+    "DAY,146096",
+    "DAY,146097",
+    "DAY,",
+    "DAY",
+    "DAY,060",
+    "DAY,60,0",
     "BACK,1",
     "QUEUE,B,0,0,100,1,K",
     "QUEUE,P,0,B,0,1",
@@ -122,6 +149,47 @@ const KEPT_LINES: [&str; 6] = [
     "L,1,0,95,1,K",
     "L,1,0,100,2,K",
     "L,1,0,105,1,K",
+];
+
+/// Offers that the reserves of the short day allow, some of which meet, and what
+/// becomes of their deals.
+const DEAL_LINES: [&str; 9] = [
+    "OFFER,0,B,0,100,1,500,7",
+    "OFFER,1,L,0,100,1,500,7",
+    "OFFER,0,B,0,105,2,500,7",
+    "OFFER,1,L,0,105,2,500,7",
+    "OFFER,1,L,0,100,1,500,8",
+    "SECOND,1",
+    "SECOND,2",
+    "C\nZ\nDAY,7",
+    "C\nZ\nDAY,8",
+];
+
+/// A heading's date in range and out of it, in good form and in bad, and with
+/// more fields than there are.
+const DATES: [&str; 22] = [
+    "0",
+    "1",
+    "59",
+    "10957",
+    "146095",
+    "146096",
+    "146096",
+    "146097",
+    "146097",
+    "146461",
+    "9999999999999999",
+    "10000000000000000",
+    "00000000000000059",
+    "",
+    "00",
+    "059",
+    "+1",
+    "-1",
+    "1e3",
+    "K",
+    " 1",
+    "59,",
 ];
 
 /// A heading's rate in range and out of it, in good form and in bad, and with
@@ -186,10 +254,14 @@ const NOMINALS: [&str; 26] = [
 const WRONG_NOMINALS: [&str; 5] = ["1", "9999", "500001", "1000000", "9999999999999999"];
 
 /// Headings in the longer forms of this level and of later ones.
-const LONGER_HEADINGS: [&str; 8] = [
+const LONGER_HEADINGS: [&str; 12] = [
     "H,1,1,1,0\nS,0,10,5",
     "H,1,1,1,1000\nS,0,10,5",
     "H,1,1,1,1000,59\nS,0,10,5",
+    "H,1,1,1,0,0\nS,0,10,5",
+    "H,1,1,1,0,146096\nS,0,10,5",
+    "H,1,1,1,0,146097\nS,0,10,5",
+    "H,1,1,1,1001,146097\nS,0,10,5",
     "H,1,1,1,1000,59,0\nS,0,10,5",
     "H,1,1,1\nS,0,10,5,0",
     "H,1,1,2\nS,0,10,5\nS,0,10,5,10000",
@@ -274,6 +346,24 @@ pub fn with_rate(random: &mut Random, text: Vec<u8>) -> Vec<u8> {
     lines.join(&b'\n')
 }
 
+/// Another date in the heading, or none; at times a wrong rate, count or line
+/// too, which shows what is asked first.
+pub fn with_date(random: &mut Random, text: Vec<u8>) -> Vec<u8> {
+    let mut lines = lines_of(&text);
+    let rate = random.pick(&["0", "0", "1000", "1001"]);
+    let good = random.pick(&["0", "365", "146096"]);
+    let out_of_range = random.pick(&["146097", "9999999999999999"]);
+    let any = random.pick(&DATES);
+    let date = random.pick(&[good, out_of_range, out_of_range, any]);
+    lines[0] = with_last_field(&lines[0], &format!("{rate},{date}"));
+    match random.below(6) {
+        0 => wrong_security(random, &mut lines),
+        1 => change_heading_count(random, &mut lines),
+        _ => {}
+    }
+    lines.join(&b'\n')
+}
+
 /// Other nominals in the heading, or none; at times a wrong line, rate or count
 /// too, which shows what is asked first.
 pub fn with_nominals(random: &mut Random, text: Vec<u8>) -> Vec<u8> {
@@ -312,7 +402,7 @@ fn fields_of_a_day(line: &[u8]) -> Vec<&[u8]> {
     line.split(|&byte| byte == b',').take(4).collect()
 }
 
-/// These and one more: a rate or a nominal.
+/// These and one more: a rate, with or without a date, or a nominal.
 fn with_last_field(line: &[u8], field: &str) -> Vec<u8> {
     let mut fields = fields_of_a_day(line);
     fields.push(field.as_bytes());
@@ -556,15 +646,25 @@ fn longer_heading(random: &mut Random) -> Vec<u8> {
     text
 }
 
-/// Count, rate, lines and nominals are each at times wrong, which shows what is
-/// asked first.
+/// Count, rate, date, lines and nominals are each at times wrong, which shows
+/// what is asked first.
 pub fn asked_heading(random: &mut Random) -> Vec<u8> {
     let participants = random.pick(&["1", "2", "16", "16", "17"]);
     let any_rate = random.pick(&RATES);
     let rate = random.pick(&["1001", "1001", "1000", "0", any_rate]);
     let count = random.within(1, 3);
     let mut text = Vec::new();
-    line(&mut text, &format!("H,{participants},1,{count},{rate}"));
+    let any_date = random.pick(&DATES);
+    let date = random.pick(&["", "", ",0", ",146096", ",146097", ",146097"]);
+    let date = if random.chance(10) {
+        format!(",{any_date}")
+    } else {
+        date.into()
+    };
+    line(
+        &mut text,
+        &format!("H,{participants},1,{count},{rate}{date}"),
+    );
     for _ in 0..count {
         let wrong = random.pick(&WRONG_SECURITIES);
         let security = random.pick(&["S,0,10,5", "S,0,10,5", "S,0,10,5", wrong]);
@@ -578,7 +678,7 @@ pub fn asked_heading(random: &mut Random) -> Vec<u8> {
 }
 
 /// A good heading, and then lines of day files and scripts without sense, at
-/// times orders among them.
+/// times orders and offers among them.
 fn random_script_lines(random: &mut Random) -> Vec<u8> {
     let mut text = SHORT_DAY.to_vec();
     let orders_percent = random.pick(&[0, 2, 10, 30]);
@@ -586,7 +686,9 @@ fn random_script_lines(random: &mut Random) -> Vec<u8> {
         let of_script = random.pick(&SCRIPT_LINES);
         let of_day = random.pick(&LINES);
         let without_sense = random.pick(&[of_script, of_day]);
-        let order = random.pick(&KEPT_LINES);
+        let kept = random.pick(&KEPT_LINES);
+        let of_deals = random.pick(&DEAL_LINES);
+        let order = random.pick(&[kept, of_deals]);
         let is_order = random.chance(orders_percent);
         line(&mut text, if is_order { order } else { without_sense });
     }

@@ -60,7 +60,7 @@ pub fn run_text<const LEVEL: u8>(
     }
 }
 
-/// Forms of the whole heading first, then 17, 18, 23 and 22.
+/// Forms of the whole heading first, then 17, 18, 23, 22 and 24.
 fn open_day<const LEVEL: u8>(
     reader: &mut LineReader<LEVEL>,
     asks_soundness: bool,
@@ -69,8 +69,8 @@ fn open_day<const LEVEL: u8>(
     let opening = reader
         .heading()
         .map_err(|fault| (fault.line, refused(refusal::MALFORMED)))?;
-    // Line 1 is H, so the security at place n is on line n + 1; 17, 23 and 22
-    // have place 0.
+    // Line 1 is H, so the security at place n is on line n + 1; the other
+    // refusals have place 0.
     let engine =
         Engine::open(&opening, asks_soundness).map_err(|refused| (refused.place + 1, refused))?;
     observer.opened(&opening);

@@ -1,21 +1,25 @@
-//! The engine: one trading day's state and the calls that change it.
-//! A refused call changes nothing.
+//! The engine: the state of a trading day and of those after it, and the calls
+//! that change it. A refused call changes nothing.
 
 mod auction;
+pub mod calendar;
 mod closing;
 mod pairing;
 mod positions;
 mod questions;
+mod repurchase;
 mod soundness;
 mod trading;
 
 use std::ops::RangeInclusive;
 
+use calendar::LAST_DAY;
 use pairing::all_paired;
+pub use repurchase::second_sum;
 
 use crate::calls::{
-    refusal, refused, Answer, Call, ClosingEntry, Done, Entry, Member, Movement, Opening, Phase,
-    Refused, SecurityLine, Trade, WaitingOrder,
+    refusal, refused, Answer, Call, ClosingEntry, Deal, Done, Entry, Member, Movement, Opening,
+    Phase, Refused, SecurityLine, Trade, WaitingOrder,
 };
 
 pub const PARTICIPANT_LIMIT: usize = 16;
@@ -34,6 +38,11 @@ pub const RATE_LIMIT: u64 = 1_000;
 pub const WAITING_LIMIT: usize = 128;
 pub const CODE_LIMIT: u64 = 1_000_000;
 pub const GROUP_SIZES: RangeInclusive<usize> = 2..=8;
+pub const DEAL_LIMIT: usize = 64;
+/// Of repurchase deals: hundredths of a percent a year, days, and the first sum.
+pub const DEAL_RATE_LIMIT: u64 = 5_000;
+pub const TERMS: RangeInclusive<u64> = 1..=365;
+pub const FIRST_SUM_LIMIT: u64 = 10_000_000_000;
 
 /// Numbers of the shortest trade list that suffices: 8 for each of 136 trades.
 pub const LIST_LENGTH: u64 = 1_088;
@@ -64,7 +73,7 @@ impl Traded {
     }
 }
 
-/// What the opening fixes for the whole day.
+/// What the opening fixes for all days.
 #[derive(Clone, PartialEq, Eq, Debug)]
 struct Market {
     participants: usize,
@@ -73,8 +82,9 @@ struct Market {
     rate: u64,
 }
 
-/// What the calls change. Waiting orders stand by rising code. The account is
-/// the market's own, which the fees go to, in each currency.
+/// What the calls change. Waiting orders stand by rising code, open deals the
+/// oldest first. The account is the market's own, which the fees go to, in each
+/// currency.
 #[derive(Clone, PartialEq, Eq, Debug)]
 struct State {
     money: [[Position; CURRENCY_LIMIT]; PARTICIPANT_LIMIT],
@@ -84,6 +94,8 @@ struct State {
     waiting: Vec<WaitingOrder>,
     codes_given: u64,
     phase: Phase,
+    date: u64,
+    deals: Vec<Deal>,
 }
 
 #[derive(Clone, PartialEq, Eq, Debug)]
@@ -145,6 +157,7 @@ impl Engine {
         let nominals_allowed = opening.securities.iter().all(nominal_allowed);
         ensure(nominals_allowed, refusal::NOMINAL)?;
         ensure(opening.rate <= RATE_LIMIT, refusal::RATE)?;
+        ensure(opening.date <= LAST_DAY, refusal::DATE)?;
         let market = Market {
             participants,
             currencies,
@@ -153,7 +166,7 @@ impl Engine {
         };
         Ok(Engine {
             market,
-            state: State::opened(),
+            state: State::opened(opening.date),
             asks_soundness,
         })
     }
@@ -198,10 +211,18 @@ impl Engine {
     pub fn phase(&self) -> Phase {
         self.state.phase
     }
+
+    pub fn date(&self) -> u64 {
+        self.state.date
+    }
+
+    pub fn deals(&self) -> &[Deal] {
+        &self.state.deals
+    }
 }
 
 impl State {
-    fn opened() -> State {
+    fn opened(date: u64) -> State {
         State {
             money: Default::default(),
             pieces: Default::default(),
@@ -210,6 +231,8 @@ impl State {
             waiting: Vec::with_capacity(WAITING_LIMIT),
             codes_given: 0,
             phase: Phase::Open,
+            date,
+            deals: Vec::with_capacity(DEAL_LIMIT),
         }
     }
 }
@@ -244,6 +267,9 @@ impl Engine {
             Call::StartClosing => self.start_closing(),
             Call::EnterClosing(entry) => self.enter_closing(entry),
             Call::EndSession => self.end_session(trades),
+            Call::EnterOffer(offer) => self.enter_offer(offer, trades),
+            Call::SecondPart { place } => self.second_part(*place),
+            Call::NewDay { date } => self.new_day(*date),
         }
     }
 

@@ -4,11 +4,13 @@
 mod collecting;
 mod day;
 mod groups;
+mod repurchase;
 mod script;
 mod single;
 mod spoiled;
 
 use day::{Day, LONGEST_CALL};
+use repurchase::date;
 
 use crate::calls::{Opening, SecurityLine};
 use crate::damage;
@@ -47,10 +49,20 @@ struct Plan {
     price_edges: u64,
     tight_groups: u64,
     tight_closing_orders: u64,
+    date_percent: u64,
+    offers: u64,
+    counter_percent: u64,
+    offer_edges: u64,
+    tight_offers: u64,
+    second_parts: u64,
+    new_days: u64,
+    unfit_days: u64,
+    /// Of the days after the first.
+    day_length: usize,
 }
 
 /// A day file lends nothing, shows nothing of its own, knows no collecting, no
-/// tariff and no nominals.
+/// tariff, no nominals and no repurchase deals, and is over with its day.
 const SENSIBLE: Plan = Plan {
     length: 2_000,
     orders: 60,
@@ -74,6 +86,15 @@ const SENSIBLE: Plan = Plan {
     price_edges: 0,
     tight_groups: 0,
     tight_closing_orders: 0,
+    date_percent: 0,
+    offers: 0,
+    counter_percent: 0,
+    offer_edges: 0,
+    tight_offers: 0,
+    second_parts: 0,
+    new_days: 0,
+    unfit_days: 0,
+    day_length: 0,
 };
 
 const SCRIPTED: Plan = Plan {
@@ -86,6 +107,15 @@ const SCRIPTED: Plan = Plan {
     price_edges: 2,
     tight_groups: 2,
     tight_closing_orders: 5,
+    date_percent: 60,
+    offers: 10,
+    counter_percent: 60,
+    offer_edges: 2,
+    tight_offers: 1,
+    second_parts: 2,
+    new_days: 6,
+    unfit_days: 1,
+    day_length: 1_500,
     ..SENSIBLE
 };
 
@@ -95,12 +125,13 @@ pub fn day_file(seed: u64) -> Vec<u8> {
 }
 
 /// The script of a seed: mostly a day with words of scripts among its calls,
-/// often one with an auction before trading opens; at times with such words
-/// put in anywhere, with another rate or nominal, hardly more than a heading,
-/// or one that never was good.
+/// often one with an auction before trading opens, or several days with
+/// repurchase deals; at times with such words put in anywhere, with another
+/// rate, date or nominal, hardly more than a heading, or one that never was
+/// good.
 pub fn script(seed: u64) -> Vec<u8> {
     let mut random = Random::new(!seed);
-    match random.below(20) {
+    match random.below(30) {
         0 => damage::script_oddity(&mut random),
         1..=3 => damage::with_script_lines(&mut random, text(seed, SCRIPTED)),
         4 => {
@@ -115,6 +146,17 @@ pub fn script(seed: u64) -> Vec<u8> {
         7 => damage::with_nominals(&mut random, text(seed, SCRIPTED)),
         8 => damage::asked_heading(&mut random),
         9..=13 => auction_day(random),
+        14 => damage::with_date(&mut random, text(seed, SCRIPTED)),
+        15 => {
+            let text = repurchase_days(Random::new(random.number()));
+            damage::with_script_lines(&mut random, text)
+        }
+        16 => {
+            let text = repurchase_days(Random::new(random.number()));
+            damage::damaged(&mut random, text)
+        }
+        17..=21 => repurchase_days(random),
+        22 => full_deals_days(random),
         _ => text(seed, SCRIPTED),
     }
 }
@@ -236,6 +278,56 @@ fn auction_day(mut random: Random) -> Vec<u8> {
     Day::new(random, plan, opening).write()
 }
 
+/// Several days, whose offers often meet and whose deals come due.
+fn repurchase_days(mut random: Random) -> Vec<u8> {
+    let length = random.within(2_000, 14_000) as usize;
+    let day_length = length / random.within(2, 9) as usize;
+    let plan = Plan {
+        length,
+        day_length,
+        closing_at: day_length,
+        ending_at: day_length + random.index(day_length / 3),
+        orders: 20,
+        groups: 2,
+        collect_percent: random.pick(&[0, 20, 60]),
+        offers: 60,
+        counter_percent: random.pick(&[40, 60, 80]),
+        offer_edges: 6,
+        tight_offers: 4,
+        second_parts: 12,
+        new_days: 12,
+        ..SCRIPTED
+    };
+    let opening = opening(&mut random, plan, 5);
+    Day::new(random, plan, opening).write()
+}
+
+/// So many offers that meet that 64 deals come to be open, and then days on
+/// which they end.
+fn full_deals_days(mut random: Random) -> Vec<u8> {
+    let length = random.within(14_000, 30_000) as usize;
+    let closing_at = random.within(8_000, 12_000) as usize;
+    let plan = Plan {
+        length,
+        day_length: length / random.within(4, 9) as usize,
+        closing_at,
+        ending_at: closing_at + random.index(500),
+        orders: 6,
+        exact_fills: 1,
+        groups: 1,
+        spoiled: 3,
+        lend_percent: 0,
+        collect_percent: 0,
+        offers: 150,
+        counter_percent: random.pick(&[50, 80, 95]),
+        second_parts: 6,
+        new_days: 12,
+        ..SCRIPTED
+    };
+    let opening = opening(&mut random, plan, 3);
+    Day::new(random, plan, opening).write()
+}
+
 /// Most of the day is its closing session, long enough to fill the book.
 fn closing_day(mut random: Random, usual: Plan) -> Vec<u8> {
     let length = random.within(1_500, 10_000) as usize;
@@ -292,6 +384,7 @@ fn opening(random: &mut Random, plan: Plan, most_participants: u64) -> Opening {
         currencies,
         securities: security_lines(random, plan, currencies, count as usize),
         rate: rate(random, plan.tariff_percent),
+        date: date(random, plan.date_percent),
     }
 }
 
@@ -303,6 +396,7 @@ fn auction_opening(random: &mut Random, plan: Plan) -> Opening {
         currencies,
         securities: security_lines(random, plan, currencies, count),
         rate: rate(random, plan.tariff_percent),
+        date: date(random, plan.date_percent),
     }
 }
 
@@ -406,5 +500,6 @@ fn good_opening(random: &mut Random) -> Opening {
         currencies: 2,
         securities: vec![line(0), line(1), line(0)],
         rate: 0,
+        date: 0,
     }
 }

@@ -1,12 +1,12 @@
 //! The lines that a text prints: answers, trades and the lines of the end.
 
-use crate::calls::{Answer, Phase, Side, Trade, WaitingKind, WaitingOrder};
+use crate::calls::{Answer, Deal, Phase, Side, Trade, WaitingKind, WaitingOrder};
 use crate::engine::{Engine, Position};
 
 type PrintLines = fn(&Engine, &mut Vec<u8>);
 
 /// The lines of the end in their order, each from its level on.
-const END: [(u8, PrintLines); 7] = [
+const END: [(u8, PrintLines); 9] = [
     (0, print_money),
     (0, print_pieces),
     (1, print_phase),
@@ -14,6 +14,8 @@ const END: [(u8, PrintLines); 7] = [
     (1, print_codes),
     (1, print_waiting),
     (3, print_market),
+    (6, print_date),
+    (6, print_deals),
 ];
 
 pub fn print_end<const LEVEL: u8>(engine: &Engine, out: &mut Vec<u8>) {
@@ -125,23 +127,57 @@ fn print_market(engine: &Engine, out: &mut Vec<u8>) {
     }
 }
 
-/// A closing order has no price and prints 0.
+fn print_date(engine: &Engine, out: &mut Vec<u8>) {
+    print_line(out, b"DATE", &[engine.date()]);
+}
+
+fn print_deals(engine: &Engine, out: &mut Vec<u8>) {
+    for (place, deal) in (1..).zip(engine.deals()) {
+        print_deal(out, place, deal, engine.sums(deal));
+    }
+}
+
+fn print_deal(out: &mut Vec<u8>, place: u64, deal: &Deal, (first_sum, second_sum): (u64, u64)) {
+    let numbers = [
+        place,
+        deal.buyer as u64,
+        deal.seller as u64,
+        deal.security as u64,
+        deal.lots,
+        deal.terms.price,
+        deal.terms.rate,
+        deal.first_day,
+        deal.due_day(),
+        first_sum,
+        second_sum,
+    ];
+    print_line(out, b"DEAL", &numbers);
+}
+
+/// A closing order has no price and prints 0; an offer prints its rate and term
+/// after its price.
 fn print_waiting_order(out: &mut Vec<u8>, order: &WaitingOrder) {
     let side: &[u8] = match order.side {
         Side::Buy => b",B",
         Side::Sell => b",L",
     };
-    let (kind, price): (&[u8], u64) = match order.kind {
-        WaitingKind::Kept(price) => (b",K", price),
-        WaitingKind::Closing => (b",P", 0),
-    };
     out.extend_from_slice(b"WAITS");
     print_fields(out, &[order.participant as u64, order.code]);
     out.extend_from_slice(side);
     print_fields(out, &[order.security as u64, order.lots]);
-    out.extend_from_slice(kind);
-    print_fields(out, &[price]);
+    match order.kind {
+        WaitingKind::Kept(price) => print_kind(out, b",K", &[price]),
+        WaitingKind::Closing => print_kind(out, b",P", &[0]),
+        WaitingKind::Offer(terms) => {
+            print_kind(out, b",OFFER", &[terms.price, terms.rate, terms.term]);
+        }
+    }
     out.push(b'\n');
+}
+
+fn print_kind(out: &mut Vec<u8>, kind: &[u8], numbers: &[u64]) {
+    out.extend_from_slice(kind);
+    print_fields(out, numbers);
 }
 
 pub fn print_line(out: &mut Vec<u8>, word: &[u8], numbers: &[u64]) {

@@ -3,7 +3,7 @@
 
 use crate::book::{expect, Book, Checked};
 use crate::calls::{
-    refusal, refused, Answer, Call, Done, Opening, Phase, Refused, Side, Trade, WaitingKind,
+    refusal, refused, Answer, Call, Done, Opening, Phase, Refused, Side, Terms, Trade, WaitingKind,
     WaitingOrder,
 };
 use crate::engine::{Engine, Position, Traded, LIST_LENGTH};
@@ -20,7 +20,16 @@ struct Line<'output, const COUNT: usize> {
     fields: [&'output [u8]; COUNT],
 }
 
-impl<const COUNT: usize> Line<'_, COUNT> {
+impl<'output, const COUNT: usize> Line<'output, COUNT> {
+    /// A line with the word due and so many fields after it.
+    fn new(whole: &'output [u8], word: &str) -> Result<Self, String> {
+        let fields = fields(whole, word).ok_or_else(|| {
+            let printed = whole.escape_ascii();
+            format!("no {word} line of {COUNT} fields: {printed}")
+        })?;
+        Ok(Line { whole, fields })
+    }
+
     fn read<Item>(&self, read: impl FnOnce(&Self) -> Option<Item>) -> Result<Item, String> {
         read(self).ok_or_else(|| format!("a wrong field: {}", self.whole.escape_ascii()))
     }
@@ -53,18 +62,40 @@ impl<const COUNT: usize> Line<'_, COUNT> {
     }
 
     /// A waiting order's kind, with the price in the field after it.
-    fn waiting_kind(&self, place: usize) -> Option<WaitingKind> {
+    fn order_kind(&self, place: usize) -> Option<WaitingKind> {
         match (self.fields[place], self.number(place + 1)?) {
             (b"K", price) => Some(WaitingKind::Kept(price)),
             (b"P", 0) => Some(WaitingKind::Closing),
             _ => None,
         }
     }
+
+    /// A waiting offer's, with price, rate and term in the fields after it.
+    fn offer_kind(&self, place: usize) -> Option<WaitingKind> {
+        let terms = Terms {
+            price: self.number(place + 1)?,
+            rate: self.number(place + 2)?,
+            term: self.number(place + 3)?,
+        };
+        (self.fields[place] == b"OFFER").then_some(WaitingKind::Offer(terms))
+    }
+
+    /// What waits, of the kind that follows the other fields.
+    fn waiting_order(&self, kind: fn(&Self, usize) -> Option<WaitingKind>) -> Option<WaitingOrder> {
+        Some(WaitingOrder {
+            participant: self.index(0)?,
+            code: self.number(1)?,
+            side: self.side(2)?,
+            security: self.index(3)?,
+            lots: self.number(4)?,
+            kind: kind(self, 5)?,
+        })
+    }
 }
 
 impl<'output> Printed<'output> {
-    /// The next line, which must have the word due and so many fields after it.
-    fn line<const COUNT: usize>(&mut self, word: &str) -> Result<Line<'output, COUNT>, String> {
+    /// The next line, without its byte 10.
+    fn whole(&mut self) -> Result<&'output [u8], String> {
         let end = self
             .rest
             .iter()
@@ -72,11 +103,12 @@ impl<'output> Printed<'output> {
             .ok_or("the output ends too early")?;
         let whole = &self.rest[..end];
         self.rest = &self.rest[end + 1..];
-        let fields = fields(whole, word).ok_or_else(|| {
-            let printed = whole.escape_ascii();
-            format!("no {word} line of {COUNT} fields: {printed}")
-        })?;
-        Ok(Line { whole, fields })
+        Ok(whole)
+    }
+
+    /// The next line, which must have the word due and so many fields after it.
+    fn line<const COUNT: usize>(&mut self, word: &str) -> Result<Line<'output, COUNT>, String> {
+        Line::new(self.whole()?, word)
     }
 
     fn numbers<const COUNT: usize>(&mut self, word: &str) -> Result<[u64; COUNT], String> {
@@ -161,17 +193,15 @@ impl<'output> Printed<'output> {
         Ok(amount)
     }
 
+    /// An order, or an offer, whose line has two fields more.
     fn waiting_order(&mut self) -> Result<WaitingOrder, String> {
-        self.line::<7>("WAITS")?.read(|line| {
-            Some(WaitingOrder {
-                participant: line.index(0)?,
-                code: line.number(1)?,
-                side: line.side(2)?,
-                security: line.index(3)?,
-                lots: line.number(4)?,
-                kind: line.waiting_kind(5)?,
-            })
-        })
+        let whole = self.whole()?;
+        match Line::<9>::new(whole, "WAITS") {
+            Ok(line) => line.read(|line| line.waiting_order(Line::offer_kind)),
+            Err(_) => {
+                Line::<7>::new(whole, "WAITS")?.read(|line| line.waiting_order(Line::order_kind))
+            }
+        }
     }
 }
 
@@ -285,11 +315,16 @@ impl Fed {
         self.book.feed(call, answer, trades)
     }
 
-    /// An accepted order takes the next code, a group one for each member.
+    /// An accepted order or offer takes the next code, a group one for each
+    /// member; a new day begins without any.
     fn take_codes(&mut self, call: &Call, code: u64) -> Checked {
         let taken = match call {
-            Call::Enter(_) | Call::EnterClosing(_) => 1,
+            Call::Enter(_) | Call::EnterClosing(_) | Call::EnterOffer(_) => 1,
             Call::Group { members, .. } => members.len() as u64,
+            Call::NewDay { .. } => {
+                self.codes_given = 0;
+                return Ok(());
+            }
             _ => return Ok(()),
         };
         expect(code == self.codes_given + 1, || {
@@ -303,7 +338,7 @@ impl Fed {
 type CheckLines = fn(&Fed, &mut Printed) -> Checked;
 
 /// The lines of the end in their order, each from its level on.
-const END: [(u8, CheckLines); 7] = [
+const END: [(u8, CheckLines); 9] = [
     (0, check_money),
     (0, check_pieces),
     (1, check_phase),
@@ -311,6 +346,8 @@ const END: [(u8, CheckLines); 7] = [
     (1, check_codes),
     (1, check_waiting),
     (3, check_market),
+    (6, check_date),
+    (6, check_deals),
 ];
 
 fn check_end<const LEVEL: u8>(fed: &Fed, printed: &mut Printed) -> Checked {
@@ -378,6 +415,19 @@ fn check_market(fed: &Fed, printed: &mut Printed) -> Checked {
     for currency in 0..fed.book.currencies() {
         let account = printed.account(currency)?;
         fed.book.compare_market(currency, account)?;
+    }
+    Ok(())
+}
+
+fn check_date(fed: &Fed, printed: &mut Printed) -> Checked {
+    let [date] = printed.numbers("DATE")?;
+    fed.book.compare_date(date)
+}
+
+fn check_deals(fed: &Fed, printed: &mut Printed) -> Checked {
+    for place in 0..fed.book.open_deals() {
+        let numbers = printed.numbers("DEAL")?;
+        fed.book.compare_printed_deal(place, numbers)?;
     }
     Ok(())
 }

@@ -8,11 +8,14 @@ use std::thread;
 
 use model::cases::cases;
 use model::dayfile::{output_of, script_output};
-use model::engine::{CURRENCY_LIMIT, PARTICIPANT_LIMIT, SECURITY_LIMIT};
+use model::engine::{CURRENCY_LIMIT, DEAL_LIMIT, PARTICIPANT_LIMIT, SECURITY_LIMIT, WAITING_LIMIT};
 use model::generate::{day_file, script};
 use model::reader::TEXT_LIMIT;
 
 use crate::difference::{failed, first_difference};
+
+/// How often the fullest end is shown.
+const ENDS: usize = 20;
 
 /// The day program on day files.
 pub fn compare_program(path: &str, first_seed: u64, count: u64) -> Result<(), String> {
@@ -44,6 +47,8 @@ pub fn compare_replay(path: &str, first_seed: u64, count: u64) -> Result<(), Str
     runs.compare("empty lines", &empty_lines, &script_output(&empty_lines))?;
     let shows = filled(&fullest_heading(), "SHOW\n");
     runs.compare("shows", &shows, &script_output(&shows))?;
+    let ends = [fullest_end(), "SHOW\n".repeat(ENDS)].concat();
+    runs.compare("ends", ends.as_bytes(), &script_output(ends.as_bytes()))?;
     runs.print("scripts");
     Ok(())
 }
@@ -58,6 +63,35 @@ fn filled(heading: &str, line: &str) -> Vec<u8> {
 fn fullest_heading() -> String {
     let counts = format!("H,{PARTICIPANT_LIMIT},{CURRENCY_LIMIT},{SECURITY_LIMIT}\n");
     counts + &"S,0,10,5\n".repeat(SECURITY_LIMIT)
+}
+
+/// All positions with long numbers, 64 deals of the greatest first sum, and 128
+/// that wait, all of them offers but for two: a 64th deal leaves no room for
+/// more offers.
+fn fullest_end() -> String {
+    let (offer, counter) = (
+        "OFFER,15,B,15,1000000,10,5000",
+        "OFFER,14,L,15,1000000,10,5000",
+    );
+    let deal = format!("{offer},365\n{counter},365\n");
+    let waiting = format!("{offer},364\n").repeat(WAITING_LIMIT - 2);
+    let orders = "B,15,15,1000000,10,K\n".repeat(2);
+    let earlier_deals = deal.repeat(DEAL_LIMIT - 1);
+    [full_positions(), earlier_deals, waiting, deal, orders].concat()
+}
+
+fn full_positions() -> String {
+    let counts = format!("H,{PARTICIPANT_LIMIT},{CURRENCY_LIMIT},{SECURITY_LIMIT},1000,145000\n");
+    let mut text = counts + &"S,3,1000,1000000\n".repeat(SECURITY_LIMIT);
+    for participant in 0..PARTICIPANT_LIMIT {
+        for currency in 0..CURRENCY_LIMIT {
+            text += &format!("R,{participant},{currency},62000000000000\n");
+        }
+        for security in 0..SECURITY_LIMIT {
+            text += &format!("D,{participant},{security},62000000000\n");
+        }
+    }
+    text
 }
 
 /// Runs of one program, and the length of their longest output.

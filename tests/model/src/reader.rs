@@ -2,8 +2,8 @@
 //! the heading, commands.
 
 use crate::calls::{
-    refusal, refused, Call, ClosingEntry, Entry, EntryKind, Member, Movement, Opening, Refused,
-    SecurityLine, Side,
+    refusal, refused, Call, ClosingEntry, Entry, EntryKind, Member, Movement, Offer, Opening,
+    Refused, SecurityLine, Side, Terms,
 };
 use crate::engine::GROUP_SIZES;
 
@@ -66,7 +66,7 @@ impl<'text, const LEVEL: u8> LineReader<'text, LEVEL> {
     /// Reads H and the S lines it announces. A missing line counts as
     /// malformed, its number one past the last line's.
     pub fn heading(&mut self) -> Result<Opening, HeadingFault> {
-        let (participants, currencies, count, rate) =
+        let [participants, currencies, count, rate, date] =
             self.heading_line(heading_numbers::<LEVEL>)?;
         let mut securities = Vec::new();
         for _ in 0..count {
@@ -77,6 +77,7 @@ impl<'text, const LEVEL: u8> LineReader<'text, LEVEL> {
             currencies,
             securities,
             rate,
+            date,
         })
     }
 
@@ -209,15 +210,21 @@ fn fields_after(letter: u8, line: &[u8]) -> Option<Fields<'_>> {
     (fields.letter()? == letter).then_some(fields)
 }
 
-/// Participants, currencies, securities, and the rate from its level on.
-fn heading_numbers<const LEVEL: u8>(line: &[u8]) -> Option<(u64, u64, u64, u64)> {
+/// Participants, currencies, securities, and from their levels on the rate and
+/// the date.
+fn heading_numbers<const LEVEL: u8>(line: &[u8]) -> Option<[u64; 5]> {
     let mut fields = fields_after(b'H', line)?;
-    let counts = (fields.number()?, fields.number()?, fields.number()?);
+    let counts = [fields.number()?, fields.number()?, fields.number()?];
     let rate = match LEVEL {
         3.. => fields.number_or_0()?,
         _ => 0,
     };
-    fields.end((counts.0, counts.1, counts.2, rate))
+    let date = match LEVEL {
+        6.. => fields.number_or_0()?,
+        _ => 0,
+    };
+    let [participants, currencies, count] = counts;
+    fields.end([participants, currencies, count, rate, date])
 }
 
 /// Currency, lot size, price step, and the nominal from its level on.
@@ -278,6 +285,13 @@ fn call<const LEVEL: u8>(word: &[u8], fields: &mut Fields) -> Option<Call> {
         (b"C", 0..) => Call::StartClosing,
         (b"P", 0..) => Call::EnterClosing(closing_entry(fields)?),
         (b"Z", 0..) => Call::EndSession,
+        (b"OFFER", 6..) => Call::EnterOffer(offer(fields)?),
+        (b"SECOND", 6..) => Call::SecondPart {
+            place: fields.number()?,
+        },
+        (b"DAY", 6..) => Call::NewDay {
+            date: fields.number()?,
+        },
         _ => return None,
     })
 }
@@ -314,5 +328,21 @@ fn closing_entry(fields: &mut Fields) -> Option<ClosingEntry> {
         side: fields.side()?,
         security: fields.number()?,
         lots: fields.number()?,
+    })
+}
+
+fn offer(fields: &mut Fields) -> Option<Offer> {
+    let (participant, side, security) = (fields.number()?, fields.side()?, fields.number()?);
+    let (price, lots) = (fields.number()?, fields.number()?);
+    Some(Offer {
+        participant,
+        side,
+        security,
+        lots,
+        terms: Terms {
+            price,
+            rate: fields.number()?,
+            term: fields.number()?,
+        },
     })
 }

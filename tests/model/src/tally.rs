@@ -3,9 +3,9 @@
 use std::collections::BTreeMap;
 use std::fmt;
 
-use crate::calls::{Answer, Call};
+use crate::calls::{Answer, Call, Phase};
 
-const MOST_REFUSALS: usize = 24;
+const MOST_REFUSALS: usize = 27;
 
 #[derive(Default)]
 pub struct Tally {
@@ -21,6 +21,18 @@ pub struct Tally {
     pub auctions: u64,
     pub auctions_trading: u64,
     pub auction_trades: u64,
+    /// Accepted offers that were met; the others wait.
+    pub offers_met: u64,
+    /// Answers to the words of repurchase deals, by the refusal's number.
+    deal_answers: BTreeMap<(&'static str, u64), u64>,
+    /// Accepted second parts by their phase, and those after their due day.
+    second_parts: BTreeMap<String, u64>,
+    pub late_second_parts: u64,
+    /// How often an open deal was shown; of these, how often one of a
+    /// participant with himself, and one with interest.
+    pub deals: u64,
+    pub own_deals: u64,
+    pub deals_with_interest: u64,
     refusals: [u64; MOST_REFUSALS],
     /// How often each phase was shown; day files show none.
     phases: BTreeMap<String, u64>,
@@ -40,11 +52,24 @@ impl Tally {
         self.phases.get(phase).copied().unwrap_or(0)
     }
 
+    /// How often a word of repurchase deals got this number, or 0: accepted.
+    pub fn answers(&self, word: &'static str, number: u64) -> u64 {
+        let count = self.deal_answers.get(&(word, number));
+        count.copied().unwrap_or(0)
+    }
+
+    pub fn second_parts(&self, phase: &str) -> u64 {
+        self.second_parts.get(phase).copied().unwrap_or(0)
+    }
+
     /// Counts what the output alone doesn't tell.
     pub fn count_call(&mut self, call: &Call, answer: &Answer) {
         match (call, answer) {
             (Call::Group { .. }, _) => self.count_group(answer),
             (Call::EndCollecting, Ok(done)) => self.count_auction(done.trades),
+            (Call::EnterOffer(_), _) => self.count_offer(answer),
+            (Call::SecondPart { .. }, _) => self.count_word("SECOND", answer),
+            (Call::NewDay { .. }, _) => self.count_word("DAY", answer),
             _ => {}
         }
     }
@@ -53,6 +78,23 @@ impl Tally {
         self.auctions += 1;
         self.auctions_trading += u64::from(trades > 0);
         self.auction_trades += trades;
+    }
+
+    fn count_offer(&mut self, answer: &Answer) {
+        self.count_word("OFFER", answer);
+        self.offers_met += answer.map_or(0, |done| done.trades);
+    }
+
+    fn count_word(&mut self, word: &'static str, answer: &Answer) {
+        let number = answer.map_or_else(|refused| refused.number, |_| 0);
+        *self.deal_answers.entry((word, number)).or_default() += 1;
+    }
+
+    /// An accepted one, in its phase, so many days after the due day.
+    pub fn count_second_part(&mut self, phase: Phase, days_late: u64) {
+        let phase = format!("{phase:?}").to_lowercase();
+        *self.second_parts.entry(phase).or_default() += 1;
+        self.late_second_parts += u64::from(days_late > 0);
     }
 
     fn count_group(&mut self, answer: &Answer) {
@@ -74,6 +116,7 @@ impl Tally {
                 [b'T', b',', ..] => self.count_trade(line),
                 [b'P', b'H', b'A', b'S', b'E', b',', phase @ ..] => self.count_phase(phase),
                 [b'M', b'A', b'R', b'K', b'E', b'T', b',', ..] => self.count_account(line),
+                [b'D', b'E', b'A', b'L', b',', ..] => self.count_deal(line),
                 _ => {}
             }
         }
@@ -86,6 +129,16 @@ impl Tally {
 
     fn count_account(&mut self, line: &[u8]) {
         self.accounts_with_fees += u64::from(!line.ends_with(b",0"));
+    }
+
+    fn count_deal(&mut self, line: &[u8]) {
+        let fields: Vec<&[u8]> = line.split(|&byte| byte == b',').collect();
+        let [_, _, buyer, seller, .., first_sum, second_sum] = fields[..] else {
+            return;
+        };
+        self.deals += 1;
+        self.own_deals += u64::from(buyer == seller);
+        self.deals_with_interest += u64::from(first_sum != second_sum);
     }
 
     fn count_trade(&mut self, line: &[u8]) {
@@ -119,11 +172,10 @@ impl fmt::Display for Tally {
             self.groups_accepted, self.groups_refused, self.groups_undone
         )?;
         if self.auctions > 0 {
-            writeln!(
-                out,
-                "  auctions {}, of which {} traded ({} trades)",
-                self.auctions, self.auctions_trading, self.auction_trades
-            )?;
+            self.write_auctions(out)?;
+        }
+        if !self.deal_answers.is_empty() {
+            self.write_deals(out)?;
         }
         write!(out, "  refusals (number: count)")?;
         for (number, count) in self.refusals.iter().enumerate().skip(1) {
@@ -149,5 +201,36 @@ impl fmt::Display for Tally {
             )?;
         }
         Ok(())
+    }
+}
+
+impl Tally {
+    fn write_auctions(&self, out: &mut fmt::Formatter) -> fmt::Result {
+        writeln!(
+            out,
+            "  auctions {}, of which {} traded ({} trades)",
+            self.auctions, self.auctions_trading, self.auction_trades
+        )
+    }
+
+    fn write_deals(&self, out: &mut fmt::Formatter) -> fmt::Result {
+        for word in ["OFFER", "SECOND", "DAY"] {
+            write!(out, "  {word} (number: count)")?;
+            let of_word = self.deal_answers.iter().filter(|(key, _)| key.0 == word);
+            for ((_, number), count) in of_word {
+                write!(out, " {number}: {count}")?;
+            }
+            writeln!(out)?;
+        }
+        write!(out, "  offers met {}, second parts", self.offers_met)?;
+        for (phase, count) in &self.second_parts {
+            write!(out, " {phase}: {count}")?;
+        }
+        writeln!(out, ", late {}", self.late_second_parts)?;
+        writeln!(
+            out,
+            "  open deals shown {}, with oneself {}, with interest {}",
+            self.deals, self.own_deals, self.deals_with_interest
+        )
     }
 }

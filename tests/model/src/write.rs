@@ -1,7 +1,8 @@
 //! Writes the heading and calls as lines of a day file or a script.
 
 use crate::calls::{
-    Call, ClosingEntry, Entry, EntryKind, Member, Movement, Opening, SecurityLine, Side,
+    Call, ClosingEntry, Entry, EntryKind, Member, Movement, Offer, Opening, SecurityLine, Side,
+    Terms,
 };
 
 pub fn write_heading(opening: &Opening, text: &mut Vec<u8>) {
@@ -10,10 +11,14 @@ pub fn write_heading(opening: &Opening, text: &mut Vec<u8>) {
         currencies,
         securities,
         rate,
+        date,
     } = opening;
     let count = securities.len();
     let counts = format!("H,{participants},{currencies},{count}");
-    write_longer(&counts, *rate, text);
+    match date {
+        0 => write_longer(&counts, *rate, text),
+        _ => line(text, &format!("{counts},{rate},{date}")),
+    }
     for security in securities {
         write_security(security, text);
     }
@@ -56,6 +61,9 @@ pub fn write_call(call: &Call, text: &mut Vec<u8>) {
         Call::StartClosing => line(text, "C"),
         Call::EnterClosing(entry) => write_closing_entry(entry, text),
         Call::EndSession => line(text, "Z"),
+        Call::EnterOffer(offer) => write_offer(offer, text),
+        Call::SecondPart { place } => line(text, &format!("SECOND,{place}")),
+        Call::NewDay { date } => line(text, &format!("DAY,{date}")),
     }
 }
 
@@ -110,6 +118,21 @@ fn write_closing_entry(entry: &ClosingEntry, text: &mut Vec<u8>) {
     } = entry;
     let side = side_letter(*side);
     line(text, &format!("P,{participant},{side},{security},{lots}"));
+}
+
+fn write_offer(offer: &Offer, text: &mut Vec<u8>) {
+    let Offer {
+        participant,
+        side,
+        security,
+        lots,
+        terms: Terms { price, rate, term },
+    } = offer;
+    let side = side_letter(*side);
+    line(
+        text,
+        &format!("OFFER,{participant},{side},{security},{price},{lots},{rate},{term}"),
+    );
 }
 
 fn write_group(participant: u64, members: &[Member], text: &mut Vec<u8>) {

@@ -50,6 +50,7 @@ fn collecting(orders: &[Order]) -> Engine {
         currencies: 1,
         securities: vec![line],
         rate: 0,
+        date: 0,
     };
     let mut engine = Engine::open(&opening, true).expect("the opening is in range");
     let movement = |participant, amount| Movement {

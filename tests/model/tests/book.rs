@@ -42,17 +42,22 @@ fn faulty_outputs_are_found() {
     }
 }
 
+/// Replaces one part of a script's output, where it stands first.
+fn altered_in(text: &str, part: &str, by: &str) -> Result<(), String> {
+    let output = script_output(text.as_bytes());
+    let output = String::from_utf8_lossy(&output);
+    assert!(output.contains(part), "{part} is part of {output}");
+    let altered = output.replacen(part, by, 1);
+    check_printed::<SCRIPT>(text.as_bytes(), altered.as_bytes())
+}
+
 /// Two closing orders wait where the lines of the end are shown; then they
 /// trade.
 const SCRIPT_TEXT: &str = "H,1,1,1\nS,0,10,5\nR,0,0,30000\nD,0,0,200\nL,0,0,95,10,K\n\
                            B,0,0,95,10,K\nC\nP,0,B,0,3\nP,0,L,0,2\nSHOW\nLENT,0\nZ\n";
 
 fn altered_script(line: &str, by: &str) -> Result<(), String> {
-    let output = script_output(SCRIPT_TEXT.as_bytes());
-    let output = String::from_utf8_lossy(&output);
-    assert!(output.contains(line), "{line} is part of {output}");
-    let altered = output.replacen(line, by, 1);
-    check_printed::<SCRIPT>(SCRIPT_TEXT.as_bytes(), altered.as_bytes())
+    altered_in(SCRIPT_TEXT, line, by)
 }
 
 #[test]
@@ -97,11 +102,7 @@ const AUCTION_TEXT: &str = "H,1,1,1\nS,0,10,5\nR,0,0,30000\nD,0,0,200\nCOLLECT\n
                             B,0,0,100,3,K\nL,0,0,95,2,K\nSHOW\nAUCTION\n";
 
 fn altered_auction(line: &str, by: &str) -> Result<(), String> {
-    let output = script_output(AUCTION_TEXT.as_bytes());
-    let output = String::from_utf8_lossy(&output);
-    assert!(output.contains(line), "{line} is part of {output}");
-    let altered = output.replacen(line, by, 1);
-    check_printed::<SCRIPT>(AUCTION_TEXT.as_bytes(), altered.as_bytes())
+    altered_in(AUCTION_TEXT, line, by)
 }
 
 #[test]
@@ -147,11 +148,7 @@ const TARIFF_TEXT: &str = "H,2,1,1,1000\nS,0,1,1\nR,0,0,299\nD,1,0,2\nL,1,0,99,2
                            B,0,0,99,3,K\n";
 
 fn altered_tariff(line: &str, by: &str) -> Result<(), String> {
-    let output = script_output(TARIFF_TEXT.as_bytes());
-    let output = String::from_utf8_lossy(&output);
-    assert!(output.contains(line), "{line} is part of {output}");
-    let altered = output.replacen(line, by, 1);
-    check_printed::<SCRIPT>(TARIFF_TEXT.as_bytes(), altered.as_bytes())
+    altered_in(TARIFF_TEXT, line, by)
 }
 
 #[test]
@@ -186,11 +183,7 @@ const PERCENT_TEXT: &str = "H,2,1,1\nS,0,1,1,20001\nR,0,0,59996\nD,1,0,3\n\
                             B,0,0,9999,3,K\nL,1,0,9999,1,I\n";
 
 fn altered_percent(line: &str, by: &str) -> Result<(), String> {
-    let output = script_output(PERCENT_TEXT.as_bytes());
-    let output = String::from_utf8_lossy(&output);
-    assert!(output.contains(line), "{line} is part of {output}");
-    let altered = output.replacen(line, by, 1);
-    check_printed::<SCRIPT>(PERCENT_TEXT.as_bytes(), altered.as_bytes())
+    altered_in(PERCENT_TEXT, line, by)
 }
 
 #[test]
@@ -229,10 +222,127 @@ fn crossing_orders_while_open_are_found() {
     let text = "H,1,1,1\nS,0,10,5\nR,0,0,1000\nD,0,0,10\nL,0,0,95,1,K\nB,0,0,100,1,K\n";
     let output = "A,1,0,0,0,0,0,0\nA,3,0,0,0,0,0,0\nA,4,0,0,0,0,0,0\nA,5,0,0,1,0,1,0\n\
                   A,6,0,0,2,0,1,0\nM,0,0,0,1000\nQ,0,0,0,10\nPHASE,open\nTURNOVER,0,0,0\n\
-                  CODES,2\nWAITS,0,1,L,0,1,K,95\nWAITS,0,2,B,0,1,K,100\nMARKET,0,0\n";
+                  CODES,2\nWAITS,0,1,L,0,1,K,95\nWAITS,0,2,B,0,1,K,100\nMARKET,0,0\nDATE,0\n";
     let found = check_printed::<SCRIPT>(text.as_bytes(), output.as_bytes());
     assert_eq!(
         found,
         Err("in 0 a buy waits at 100, a sell at 95".to_string())
     );
+}
+
+/// One deal is open and an offer waits where the lines of the end are shown;
+/// on its due day the deal ends. The second sum is 20,019.
+const DEAL_TEXT: &str = "H,2,1,1,1000,59\nS,0,10,5\nR,0,0,40400\nD,1,0,400\n\
+                         OFFER,0,B,0,100,20,500,7\nOFFER,1,L,0,100,20,500,7\n\
+                         OFFER,1,L,0,100,10,500,7\nSHOW\nC\nZ\nDAY,66\nR,1,0,219\n\
+                         SECOND,1\n";
+
+#[test]
+fn deals_add_up() {
+    let unchanged = altered_in(DEAL_TEXT, "DATE,59\n", "DATE,59\n");
+    assert_eq!(unchanged, Ok(()));
+}
+
+#[test]
+fn faulty_outputs_of_offers_are_found() {
+    let faults = [
+        ("A,5,0,0,1,0,20,0\n", "A,5,0,0,1,0,19,0\n"),
+        ("A,5,0,0,1,0,20,0\n", "A,5,0,0,2,0,20,0\n"),
+        ("A,6,0,0,2,20,0,1\n", "A,6,0,0,2,20,20,1\n"),
+        ("A,6,0,0,2,20,0,1\n", "A,6,0,0,2,19,0,1\n"),
+        ("T,1,2,0,1,0,100,20,20000\n", "T,1,2,1,0,0,100,20,20000\n"),
+        ("T,1,2,0,1,0,100,20,20000\n", "T,2,1,0,1,0,100,20,20000\n"),
+        ("T,1,2,0,1,0,100,20,20000\n", "T,1,2,0,1,0,95,20,19000\n"),
+        ("T,1,2,0,1,0,100,20,20000\n", "T,1,2,0,1,0,100,19,19000\n"),
+        ("Q,1,0,100,100\n", "Q,1,0,200,0\n"),
+        ("M,1,0,19800,0\n", "M,1,0,20000,0\n"),
+        ("TURNOVER,0,0,0\n", "TURNOVER,0,200,20000\n"),
+        ("CODES,3\n", "CODES,1\n"),
+        (",10,OFFER,100,500,7\n", ",10,OFFER,100,500,8\n"),
+        (",10,OFFER,100,500,7\n", ",10,OFFER,100,501,7\n"),
+        (",10,OFFER,100,500,7\n", ",10,OFFER,105,500,7\n"),
+        (",10,OFFER,100,500,7\n", ",10,OFFER,100\n"),
+        (",10,OFFER,100,500,7\n", ",10,K,100,500,7\n"),
+        (",10,OFFER,100,500,7\n", ",10,K,100\n"),
+        ("MARKET,0,400\n", "MARKET,0,0\n"),
+        ("DATE,59\n", "DATE,0\n"),
+        ("DATE,59\n", ""),
+    ];
+    for (part, by) in faults {
+        let found = altered_in(DEAL_TEXT, part, by);
+        assert!(found.is_err(), "{part} replaced by {by}");
+    }
+}
+
+/// Each number of the deal's line in turn, the line left out and doubled.
+#[test]
+fn faulty_lines_of_deals_are_found() {
+    let line = "DEAL,1,0,1,0,20,100,500,59,66,20000,20019";
+    let fields: Vec<&str> = line.split(',').collect();
+    for place in 1..fields.len() {
+        let mut altered = fields.clone();
+        let number: u64 = fields[place].parse().expect("a number");
+        let other = (number + 1).to_string();
+        altered[place] = &other;
+        let altered = altered.join(",");
+        assert!(altered_in(DEAL_TEXT, line, &altered).is_err(), "{altered}");
+    }
+    let whole = format!("{line}\n");
+    let doubled = format!("{line}\n{line}\n");
+    assert!(altered_in(DEAL_TEXT, &whole, "").is_err());
+    assert!(altered_in(DEAL_TEXT, &whole, &doubled).is_err());
+}
+
+/// The last ones are interest forgotten, a fee on the second part, a deal that
+/// stays open, and a day that goes on.
+#[test]
+fn faulty_outputs_of_second_parts_and_new_days_are_found() {
+    let faults = [
+        ("A,11,0,0,0,0,0,0\n", "A,11,24,0,0,0,0,0\n"),
+        ("A,13,0,0,0,0,0,0\n", "A,13,0,0,1,0,0,0\n"),
+        ("A,13,0,0,0,0,0,0\n", "A,13,14,0,0,0,0,0\n"),
+        ("M,0,0,40219,0\nM,1,0,0,0\n", "M,0,0,40200,0\nM,1,0,19,0\n"),
+        ("M,0,0,40219,0\n", "M,0,0,40019,0\n"),
+        (
+            "DATE,66\n",
+            "DATE,66\nDEAL,1,0,1,0,20,100,500,59,66,20000,20019\n",
+        ),
+        ("DATE,66\n", "DATE,59\n"),
+        ("CODES,0\n", "CODES,3\n"),
+    ];
+    for (part, by) in faults {
+        let found = altered_in(DEAL_TEXT, part, by);
+        assert!(found.is_err(), "{part} replaced by {by}");
+    }
+}
+
+/// What is printed for offers of which one waits where it must meet, one meets
+/// a younger one, and one meets an unequal one.
+#[test]
+fn offers_that_meet_another_way_are_found() {
+    let opened = "H,1,1,1\nS,0,1,1\nR,0,0,100\nD,0,0,100\n";
+    let answered = "A,1,0,0,0,0,0,0\nA,3,0,0,0,0,0,0\nA,4,0,0,0,0,0,0\nA,5,0,0,1,0,1,0\n";
+    let offers = [
+        (
+            "OFFER,0,L,0,9,1,0,1\nOFFER,0,B,0,9,1,0,1\n",
+            "A,6,0,0,2,0,1,0\n",
+            "made [], due Some(Trade { buy_code: 2, sell_code: 1,",
+        ),
+        (
+            "OFFER,0,L,0,9,1,0,1\nOFFER,0,L,0,9,1,0,1\nOFFER,0,B,0,9,1,0,1\n",
+            "A,6,0,0,2,0,1,0\nA,7,0,0,3,1,0,1\nT,3,2,0,0,0,9,1,9\n",
+            "due Some(Trade { buy_code: 3, sell_code: 1,",
+        ),
+        (
+            "OFFER,0,L,0,9,1,0,1\nOFFER,0,B,0,9,1,0,2\n",
+            "A,6,0,0,2,1,0,1\nT,2,1,0,0,0,9,1,9\n",
+            "due None",
+        ),
+    ];
+    for (text, output, fault) in offers {
+        let (text, output) = ([opened, text].concat(), [answered, output].concat());
+        let found = check_printed::<SCRIPT>(text.as_bytes(), output.as_bytes());
+        let found = found.expect_err("the book objects");
+        assert!(found.contains(fault), "{found}");
+    }
 }

@@ -239,6 +239,7 @@ fn buyers_are_freed_by_the_fall_of_their_own_need() {
         "WAITS,1,3,L,0,4,K,95",
         "WAITS,1,4,L,0,8,K,90",
         "MARKET,0,0",
+        "DATE,0",
     ];
     let auction = [
         "A,11,0,0,0,12,0,3",
@@ -256,6 +257,7 @@ fn buyers_are_freed_by_the_fall_of_their_own_need() {
         "TURNOVER,0,0,0",
         "CODES,4",
         "MARKET,0,0",
+        "DATE,0",
     ];
     assert_prints(&lines, &[&collecting[..], &auction].concat());
 }
@@ -277,7 +279,7 @@ fn trading_and_closing_after_the_auction() {
         "SHOW",
     ];
     let output = printed(&[&RESERVES[..], &lines].concat());
-    let after: Vec<&str> = output.lines().skip(6).take(26).collect();
+    let after: Vec<&str> = output.lines().skip(6).take(28).collect();
     let expected = [
         "A,8,0,0,0,10,0,1",
         "T,2,1,0,1,0,95,10,9500",
@@ -290,6 +292,7 @@ fn trading_and_closing_after_the_auction() {
         "TURNOVER,0,0,0",
         "CODES,2",
         "MARKET,0,0",
+        "DATE,0",
         "A,10,0,0,3,0,3,0",
         "A,11,0,0,4,3,0,1",
         "T,4,3,0,1,0,105,3,3150",
@@ -305,6 +308,7 @@ fn trading_and_closing_after_the_auction() {
         "CODES,5",
         "WAITS,0,5,B,0,1,P,0",
         "MARKET,0,0",
+        "DATE,0",
     ];
     assert_eq!(after, expected);
 }
@@ -334,6 +338,7 @@ fn orders_that_do_not_meet_come_off() {
         "WAITS,1,1,L,0,10,K,105",
         "WAITS,0,2,B,0,10,K,100",
         "MARKET,0,0",
+        "DATE,0",
         "A,9,0,0,0,0,0,0",
         "A,10,0,0,3,0,0,0",
         "M,0,0,100000,0",
@@ -344,6 +349,7 @@ fn orders_that_do_not_meet_come_off() {
         "TURNOVER,0,0,0",
         "CODES,3",
         "MARKET,0,0",
+        "DATE,0",
     ];
     assert_eq!(after, expected);
 }
@@ -383,6 +389,7 @@ fn securities_ascend() {
         "CODES,4",
         "MARKET,0,0",
         "MARKET,1,0",
+        "DATE,0",
     ];
     assert_eq!(after, expected);
 }

@@ -7,6 +7,8 @@ use model::tally::Tally;
 
 const SCRIPTS: u64 = 800;
 
+const PHASES: [&str; 4] = ["open", "collecting", "closing", "closed"];
+
 /// Every state is sound (1), and no script has room for a million orders (13).
 #[test]
 fn every_refusal_and_phase_within_reach_is_reached() -> Result<(), String> {
@@ -15,13 +17,13 @@ fn every_refusal_and_phase_within_reach_is_reached() -> Result<(), String> {
         checked_output::<SCRIPT>(&script(seed), &mut tally)
             .map_err(|fault| format!("seed {seed}: {fault}"))?;
     }
-    for refusal in (2..=12).chain(14..=23) {
+    for refusal in (2..=12).chain(14..=26) {
         assert!(tally.refusals(refusal) > 0, "refusal {refusal}");
     }
     for refusal in [1, 13] {
         assert_eq!(tally.refusals(refusal), 0, "refusal {refusal}");
     }
-    for phase in ["open", "collecting", "closing", "closed"] {
+    for phase in PHASES {
         assert!(tally.shown(phase) > 0, "{phase}");
     }
     let (auctions, trading) = (tally.auctions, tally.auctions_trading);
@@ -32,5 +34,39 @@ fn every_refusal_and_phase_within_reach_is_reached() -> Result<(), String> {
     assert!(with_fees > SCRIPTS, "{with_fees} accounts with fees");
     let (trades, odd_sums) = (tally.trades, tally.odd_sums);
     assert!(odd_sums > trades / 10, "{odd_sums} sums by a nominal");
+    assert_deals_are_reached(&tally);
     Ok(())
+}
+
+fn assert_deals_are_reached(tally: &Tally) {
+    let answered: [(&str, &[u64]); 3] = [
+        ("OFFER", &[2, 4, 5, 6, 7, 8, 12, 14, 24, 25, 26]),
+        ("SECOND", &[14, 16, 24]),
+        ("DAY", &[6, 24]),
+    ];
+    for (word, numbers) in answered {
+        for number in numbers {
+            assert!(tally.answers(word, *number) > 0, "{number} to {word}");
+        }
+    }
+    let (offers, met) = (tally.answers("OFFER", 0), tally.offers_met);
+    assert!(met > 4 * SCRIPTS, "{met} offers that are met");
+    assert!(offers > 2 * met, "{offers} offers");
+    for phase in PHASES {
+        let parts = tally.second_parts(phase);
+        assert!(parts > SCRIPTS / 20, "{parts} second parts while {phase}");
+    }
+    let late = tally.late_second_parts;
+    let in_time = tally.answers("SECOND", 0) - late;
+    assert!(
+        late > SCRIPTS / 2,
+        "{late} second parts after their due day"
+    );
+    assert!(in_time > SCRIPTS / 2, "{in_time} on their due day");
+    let days = tally.answers("DAY", 0);
+    assert!(days > SCRIPTS / 2, "{days} new days");
+    let (deals, own) = (tally.deals, tally.own_deals);
+    assert!(own > 0, "deals with oneself");
+    assert!(deals > own, "deals with another");
+    assert!(tally.deals_with_interest > deals / 4, "deals with interest");
 }

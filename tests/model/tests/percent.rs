@@ -212,6 +212,7 @@ fn a_trade_at_99_percent() {
         "CODES,2",
         "WAITS,0,2,B,0,1,K,10000",
         "MARKET,0,0",
+        "DATE,0",
     ];
     assert_prints(&lines, &expected);
 }
@@ -231,6 +232,7 @@ fn partial_fills_free_the_odd_units() {
         "CODES,2",
         "WAITS,0,1,B,0,2,K,9999",
         "MARKET,0,0",
+        "DATE,0",
     ];
     assert_ends(&[&ODD_HEADING[..], &order].concat(), &partly_filled);
     let rest = ["W,0,0,1", "L,1,0,9999,1,I", "W,0,0,1", "L,1,0,1,1,A"];
@@ -243,6 +245,7 @@ fn partial_fills_free_the_odd_units() {
         "TURNOVER,0,3,29997",
         "CODES,4",
         "MARKET,0,0",
+        "DATE,0",
     ];
     assert_ends(&[&ODD_HEADING[..], &order, &rest].concat(), &filled);
 }
@@ -304,6 +307,7 @@ fn fees_go_by_the_sum() {
         "TURNOVER,0,1,34",
         "CODES,2",
         "MARKET,0,2",
+        "DATE,0",
     ];
     assert_ends(&trade, &expected);
 }
@@ -340,6 +344,7 @@ fn both_forms_in_one_day() {
         "TURNOVER,1,100,9000",
         "CODES,4",
         "MARKET,0,0",
+        "DATE,0",
     ];
     assert_ends(&lines, &expected);
 }
@@ -431,6 +436,7 @@ fn the_auction_is_in_percent() {
         "TURNOVER,0,0,0",
         "CODES,4",
         "MARKET,0,0",
+        "DATE,0",
     ];
     assert_ends(&lines, &expected);
 }
@@ -471,6 +477,7 @@ fn the_closing_price_is_in_percent() {
         "TURNOVER,0,20,199010",
         "CODES,5",
         "MARKET,0,0",
+        "DATE,0",
     ];
     assert_ends(&lines, &expected);
 }
@@ -516,6 +523,7 @@ fn the_largest_order() {
         "TURNOVER,0,10000000,200000000000",
         "CODES,2",
         "MARKET,0,200000000000",
+        "DATE,0",
     ];
     assert_ends(&lines, &expected);
 }

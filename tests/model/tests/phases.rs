@@ -20,6 +20,8 @@ const START_OF_COLLECTING: Question6 = [0, 6, 6, 6];
 const END_OF_COLLECTING: Question6 = [6, 0, 6, 6];
 const START_OF_CLOSING: Question6 = [0, 6, 6, 6];
 const SESSIONS_END: Question6 = [6, 6, 0, 6];
+const OFFER: Question6 = [0, 6, 6, 6];
+const NEW_DAY: Question6 = [6, 6, 6, 0];
 
 const PHASES: [&str; 4] = ["open", "collecting", "closing", "closed"];
 
@@ -48,6 +50,16 @@ const BUSY: Ways = [
     &[SELL, BUY, "C", "P,1,L,0,6", "P,0,B,0,6"],
     &[SELL, BUY, "C", "P,1,L,0,6", "P,0,B,0,6", "Z"],
 ];
+
+/// A deal of 1 lot at 95, whose second sum is 951, and on day 7 a second one
+/// that is due on day 8.
+const DEALS: [&str; 4] = [
+    "OFFER,1,L,0,95,1,500,7",
+    "OFFER,0,B,0,95,1,500,7",
+    "OFFER,1,L,0,95,1,500,8",
+    "OFFER,0,B,0,95,1,500,8",
+];
+const DUE: [&str; 3] = ["C", "Z", "DAY,7"];
 
 /// An answer's refusal and place.
 type Refusal = [u64; 2];
@@ -149,6 +161,8 @@ fn every_call_before_any_code() {
         (END_OF_COLLECTING, "AUCTION", [0, 0]),
         (START_OF_CLOSING, "C", [0, 0]),
         (SESSIONS_END, "Z", [0, 0]),
+        (OFFER, "OFFER,0,B,0,95,1,500,7", [0, 0]),
+        (NEW_DAY, "DAY,1", [0, 0]),
     ];
     for (question_6, call, later) in rows {
         assert_asked(&QUIET, question_6, call, later);
@@ -161,6 +175,62 @@ fn starts_and_ends_after_codes_were_given() {
     assert_asked(&BUSY, END_OF_COLLECTING, "AUCTION", [0, 0]);
     assert_asked(&BUSY, START_OF_CLOSING, "C", [0, 0]);
     assert_asked(&BUSY, SESSIONS_END, "Z", [0, 0]);
+}
+
+/// A later day inside the table, and such as 24 refuses.
+#[test]
+fn new_days() {
+    for ways in [QUIET, BUSY] {
+        assert_asked(&ways, NEW_DAY, "DAY,1", [0, 0]);
+        assert_asked(&ways, NEW_DAY, "DAY,146096", [0, 0]);
+        assert_asked(&ways, NEW_DAY, "DAY,0", [24, 0]);
+        assert_asked(&ways, NEW_DAY, "DAY,146097", [24, 0]);
+    }
+}
+
+/// The first two wait while open, whatever orders do; the others meet 7, 8, 24,
+/// 25 and 14.
+#[test]
+fn offers() {
+    let offers = [
+        ("OFFER,0,B,0,95,1,500,7", [0, 0]),
+        ("OFFER,1,L,0,90,1,5000,365", [0, 0]),
+        ("OFFER,0,B,0,95,0,500,7", [7, 0]),
+        ("OFFER,1,L,0,95,10001,500,7", [7, 0]),
+        ("OFFER,0,B,0,0,1,500,7", [8, 0]),
+        ("OFFER,1,L,0,96,1,500,7", [8, 0]),
+        ("OFFER,0,B,0,95,1,500,0", [24, 0]),
+        ("OFFER,1,L,0,95,1,500,366", [24, 0]),
+        ("OFFER,0,B,0,95,1,5001,7", [25, 0]),
+        ("OFFER,1,L,0,1000000,1001,500,7", [25, 0]),
+        ("OFFER,0,B,0,95,10000,500,7", [14, 0]),
+        ("OFFER,1,L,0,95,10000,500,7", [14, 0]),
+    ];
+    for (offer, later) in offers {
+        assert_asked(&BUSY, OFFER, offer, later);
+    }
+}
+
+/// Due, not due, of no deal, and with a unit too little; each after the ways
+/// into the phases of a second day, on which no code or four codes are given.
+#[test]
+fn second_parts_are_due_in_every_phase() {
+    for way in QUIET.iter().chain(&BUSY) {
+        let dealt = [&DEALS[..], &DUE, way].concat();
+        assert_answer(&dealt, "SECOND,1", [0, 0]);
+        assert_answer(&dealt, "SECOND,2", [24, 0]);
+        assert_answer(&dealt, "SECOND,0", [16, 0]);
+        assert_answer(&dealt, "SECOND,3", [16, 0]);
+        let short = [&DEALS[..], &["W,1,0,950"], &DUE, way].concat();
+        let expected = if trades(way) { 0 } else { 14 };
+        assert_answer(&short, "SECOND,1", [expected, 0]);
+    }
+    assert_in_every_phase("SECOND,1", [16, 0]);
+}
+
+/// Where the buy fills the sell, the seller gets 3,800.
+fn trades(way: &[&str]) -> bool {
+    way.starts_with(&[SELL, BUY])
 }
 
 /// The first two are filled in the open phase, the others meet 7, 8 and 14.
@@ -230,6 +300,8 @@ fn a_short_list_comes_before_the_phase() {
         &group,
         "AUCTION",
         "Z",
+        "OFFER,0,B,0,95,1,500,7",
+        "OFFER,2,L,2,0,0,5001,0",
     ];
     for way in QUIET.iter().chain(&BUSY) {
         let short = [way, &["LENT,1087"][..]].concat();
@@ -252,6 +324,10 @@ fn numbers_that_come_before_the_phase() {
     assert_in_every_phase("P,2,L,2,0", [4, 0]);
     assert_in_every_phase("P,0,B,2,1", [5, 0]);
     assert_in_every_phase("P,1,L,2,0", [5, 0]);
+    assert_in_every_phase("OFFER,2,B,0,95,1,500,7", [4, 0]);
+    assert_in_every_phase("OFFER,2,L,2,0,0,5001,0", [4, 0]);
+    assert_in_every_phase("OFFER,0,B,2,95,1,500,7", [5, 0]);
+    assert_in_every_phase("OFFER,1,L,2,0,0,5001,0", [5, 0]);
     assert_in_every_phase("G,0,1", [3, 0]);
     assert_in_every_phase("G,2,9", [3, 0]);
     assert_in_every_phase("G,2,2\nM,B,0,95,1\nM,B,0,95,1", [4, 1]);

@@ -17,13 +17,14 @@ use common::{answers, assert_prints, assert_refusals, printed};
 const HEADING: [&str; 2] = ["H,1,1,1", "S,0,10,5"];
 
 /// Its lines of the end.
-const NOTHING: [&str; 6] = [
+const NOTHING: [&str; 7] = [
     "M,0,0,0,0",
     "Q,0,0,0,0",
     "PHASE,open",
     "TURNOVER,0,0,0",
     "CODES,0",
     "MARKET,0,0",
+    "DATE,0",
 ];
 
 /// The paper's day, which ends with nothing waiting: 10 lots of 10 at 95 and
@@ -32,7 +33,8 @@ const NOTHING: [&str; 6] = [
 fn the_worked_example_shows_its_end() -> Result<(), String> {
     let example = cases()?.swap_remove(0);
     let mut expected = example.expected;
-    expected.extend_from_slice(b"PHASE,open\nTURNOVER,0,150,14500\nCODES,3\nMARKET,0,0\n");
+    let added = b"PHASE,open\nTURNOVER,0,150,14500\nCODES,3\nMARKET,0,0\nDATE,0\n";
+    expected.extend_from_slice(added);
     let output = checked_output::<SCRIPT>(&example.text, &mut Tally::default())?;
     assert_eq!(
         String::from_utf8_lossy(&output),
@@ -69,6 +71,7 @@ fn a_waiting_order_is_shown() {
         "CODES,2",
         "WAITS,0,2,B,0,10,K,100",
         "MARKET,0,0",
+        "DATE,0",
     ];
     assert_prints(&lines, &expected);
 }
@@ -102,6 +105,7 @@ fn waiting_orders_are_shown_in_their_order() {
         "WAITS,0,3,B,0,1,K,10",
         "WAITS,1,4,B,1,3,K,8",
         "MARKET,0,0",
+        "DATE,0",
     ];
     assert_eq!(end, expected);
 }
@@ -146,6 +150,7 @@ fn each_phase_is_shown() {
         "CODES,3",
         "WAITS,1,3,L,0,2,K,105",
         "MARKET,0,0",
+        "DATE,0",
     ];
     let closing = [
         "A,9,0,0,0,0,0,0",
@@ -158,6 +163,7 @@ fn each_phase_is_shown() {
         "TURNOVER,0,100,9500",
         "CODES,3",
         "MARKET,0,0",
+        "DATE,0",
         "A,11,0,0,4,0,3,0",
         "A,12,0,0,5,0,2,0",
         "A,13,0,0,0,0,0,0",
@@ -171,6 +177,7 @@ fn each_phase_is_shown() {
         "WAITS,0,4,B,0,3,P,0",
         "WAITS,1,5,L,0,2,P,0",
         "MARKET,0,0",
+        "DATE,0",
     ];
     let ended = [
         "A,14,0,0,0,2,0,1",
@@ -186,6 +193,7 @@ fn each_phase_is_shown() {
         "TURNOVER,0,100,9500",
         "CODES,5",
         "MARKET,0,0",
+        "DATE,0",
     ];
     let expected = [&opened[..], &closing, &ended, &closed, &closed].concat();
     assert_prints(&lines, &expected);

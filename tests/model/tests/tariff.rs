@@ -171,6 +171,7 @@ fn a_trade_of_10_lots_at_95() {
         "CODES,2",
         "WAITS,0,2,B,0,10,K,100",
         "MARKET,0,190",
+        "DATE,0",
     ];
     assert_prints(&lines, &expected);
 }
@@ -191,6 +192,7 @@ fn a_partial_fill_frees_the_odd_unit() {
         "CODES,2",
         "WAITS,0,1,B,0,1,K,99",
         "MARKET,0,0",
+        "DATE,0",
     ];
     assert_ends(&[&reserves[..], &order].concat(), &half_filled);
     let rest = ["W,0,0,1", "L,1,0,99,1,I"];
@@ -203,6 +205,7 @@ fn a_partial_fill_frees_the_odd_unit() {
         "TURNOVER,0,2,198",
         "CODES,3",
         "MARKET,0,0",
+        "DATE,0",
     ];
     assert_ends(&[&reserves[..], &order, &rest].concat(), &filled);
 }
@@ -227,6 +230,7 @@ fn who_meets_himself_pays_both_fees() {
         "TURNOVER,0,100,9500",
         "CODES,2",
         "MARKET,0,190",
+        "DATE,0",
     ];
     assert_ends(&lines, &expected);
 }
@@ -254,6 +258,7 @@ fn a_sell_meets_a_waiting_buy() {
         "CODES,2",
         "WAITS,0,1,B,0,6,K,100",
         "MARKET,0,80",
+        "DATE,0",
     ];
     assert_ends(&lines, &expected);
 }
@@ -381,6 +386,7 @@ fn the_auction_pays_fees() {
         "TURNOVER,0,0,0",
         "CODES,4",
         "MARKET,0,228",
+        "DATE,0",
     ];
     assert_ends(&lines, &expected);
 }
@@ -424,6 +430,7 @@ fn the_closing_session_pays_fees() {
         "TURNOVER,0,100,9500",
         "CODES,5",
         "MARKET,0,226",
+        "DATE,0",
     ];
     assert_ends(&lines, &expected);
 }
@@ -444,6 +451,12 @@ fn the_account_of_each_currency() {
         "L,1,1,39,10,K",
         "B,0,1,39,10,I",
     ];
-    let expected = ["CODES,4", "MARKET,0,2", "MARKET,1,0", "MARKET,2,90"];
+    let expected = [
+        "CODES,4",
+        "MARKET,0,2",
+        "MARKET,1,0",
+        "MARKET,2,90",
+        "DATE,0",
+    ];
     assert_ends(&lines, &expected);
 }

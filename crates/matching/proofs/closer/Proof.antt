@@ -41,6 +41,9 @@ enum-told c = search needs
 enum-told-2 : tie.Need-enum-told-2
 enum-told-2 c = search needs
 
+enum-told-3 : tie.Need-enum-told-3
+enum-told-3 c = search needs
+
 returns-4 : tie.Need-returns-4
 unfolding closer _and_
 returns-4 c =
@@ -63,6 +66,16 @@ returns-5 c =
       holds (k .opposite .ensures) (c .before .before .if3 .left),
     )
 
+returns-6 : tie.Need-returns-6
+unfolding closer _and_
+returns-6 c =
+    let k = c .before .before .before in
+    rw (
+      c .enum-told3 .given .1,
+      eq-eqb _ _ (k .before .if2 .left),
+      holds (k .opposite .ensures) (c .before .before .if3 .left),
+    )
+
 pub closer-spec : {M : Type 1} → statement M
 closer-spec =
     tie.close
@@ -73,5 +86,7 @@ closer-spec =
     returns-3
     enum-told
     enum-told-2
+    enum-told-3
     returns-4
-    returns-5)
+    returns-5
+    returns-6)

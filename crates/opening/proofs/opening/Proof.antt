@@ -1,5 +1,5 @@
 -- `opening::opening` meets its contract: 17, then 18 with the place of the first wrong row, then 23 where a nominal is wrong,
--- then 22, then the opened day.
+-- then 22, then 24, then the opened ledger.
 use borrow.Author.Needs.{needs}
 use borrow.Author.Tests.{le-leb, lt-leb}
 use native.Mathlib.Omega.{arith}
@@ -11,13 +11,13 @@ use Rattle.market.specs.declared.Rules.{Rules}
 use Rattle.market.specs.Limits.{maxSecurities}
 use Rattle.market.specs.Tests.{allBelow}
 use Rattle.market.specs.Day.{row}
-use Rattle.market.specs.View.{view}
 use Rattle.market.specs.Sound.{countsSound, nominalSound}
 use Rattle.market.specs.Opening.{wrongLine}
+use Rattle.market.specs.Ledger.{whole}
 use Rattle.market.proofs.Logic.{and-true, within-high}
 use Rattle.market.proofs.Opening.{nominals-left}
 use Rattle.amounts.proofs.Answers.{fails, holds}
-use Rattle.opening.proofs.Opens.{opens-counts, opens-day, opens-nominal, opens-rate, opens-row}
+use Rattle.opening.proofs.Opens.{opens-counts, opens-date, opens-ledger, opens-nominal, opens-rate, opens-row}
 use Rattle.opening.proofs.opening.Statement.{statement}
 use Rattle.opening.proofs.opening.Tie as tie
 
@@ -49,7 +49,7 @@ refused-opening-requires c κs = search needs
 
 returns : tie.Need-returns
 returns c =
-    opens-counts _ _ (fails (c .before .before .counts-sound .ensures) (c .before .if1 .taken))
+    opens-counts _ _ _ (fails (c .before .before .counts-sound .ensures) (c .before .if1 .taken))
     (c .refused-opening .ensures)
 
 first-wrong-requires : tie.Need-first-wrong-requires
@@ -61,7 +61,7 @@ refused-opening-requires-2 c κs = search needs
 returns-2 : tie.Need-returns-2
 returns-2 c =
     let w = c .before .before in
-    opens-row _ _ _ (counts-hold (w .before)) (sym (w .first-wrong .ensures)) (omega (arith, c .before .if2 .taken))
+    opens-row _ _ _ _ (counts-hold (w .before)) (sym (w .first-wrong .ensures)) (omega (arith, c .before .if2 .taken))
     (c .refused-opening2 .ensures)
 
 table-sound-requires : tie.Need-table-sound-requires
@@ -74,7 +74,7 @@ returns-3 : tie.Need-returns-3
 returns-3 c =
     let t = c .before .before in
     let rows = t .before .before in
-    opens-nominal _ _ (counts-hold (rows .before .before)) (rows-hold rows)
+    opens-nominal _ _ _ (counts-hold (rows .before .before)) (rows-hold rows)
     (fails (nominals-tested t) (c .before .if3 .taken)) (c .refused-opening3 .ensures)
 
 refused-opening-requires-4 : tie.Need-refused-opening-requires-4
@@ -84,9 +84,21 @@ returns-4 : tie.Need-returns-4
 returns-4 c =
     let e3 = c .before .before .before in
     let rows = e3 .before .before .before in
-    opens-rate _ _ (counts-hold (rows .before .before)) (rows-hold rows)
+    opens-rate _ _ _ (counts-hold (rows .before .before)) (rows-hold rows)
     (holds (nominals-tested (e3 .before)) (e3 .if3 .left)) (lt-leb _ _ (c .before .if4 .taken))
     (c .refused-opening4 .ensures)
+
+refused-opening-requires-5 : tie.Need-refused-opening-requires-5
+refused-opening-requires-5 c κs = search needs
+
+returns-5 : tie.Need-returns-5
+returns-5 c =
+    let e4 = c .before .before in
+    let e3 = e4 .before .before in
+    let rows = e3 .before .before .before in
+    opens-date _ _ _ (counts-hold (rows .before .before)) (rows-hold rows)
+    (holds (nominals-tested (e3 .before)) (e3 .if3 .left)) (le-leb _ _ (e4 .if4 .left)) (lt-leb _ _ (c .before .if5 .taken))
+    (c .refused-opening5 .ensures)
 
 opened-requires : tie.Need-opened-requires
 opened-requires c κs = search needs
@@ -94,15 +106,16 @@ opened-requires c κs = search needs
 accepted-requires : tie.Need-accepted-requires
 accepted-requires c κs = search needs
 
-returns-5 : tie.Need-returns-5
-returns-5 c =
-    let e4 = c .before .before in
+returns-6 : tie.Need-returns-6
+returns-6 c =
+    let e5 = c .before .before in
+    let e4 = e5 .before in
     let e3 = e4 .before .before in
     let rows = e3 .before .before .before in
-    opens-day _ _ (counts-hold (rows .before .before)) (rows-hold rows)
-    (holds (nominals-tested (e3 .before)) (e3 .if3 .left)) (le-leb _ _ (e4 .if4 .left))
+    opens-ledger _ _ _ (counts-hold (rows .before .before)) (rows-hold rows)
+    (holds (nominals-tested (e3 .before)) (e3 .if3 .left)) (le-leb _ _ (e4 .if4 .left)) (le-leb _ _ (e5 .if5 .left))
     (ap (λ (o : Outcome). o .answer) (c .accepted .ensures))
-    (ap (λ (o : Outcome). view (o .state)) (c .accepted .ensures) ∙ c .before .opened .ensures .0)
+    (ap (λ (o : Outcome). whole (o .state)) (c .accepted .ensures) ∙ c .before .opened .ensures .0)
 
 pub opening-spec : {M : Type 1} → statement M
 opening-spec =
@@ -119,6 +132,8 @@ opening-spec =
     returns-3
     refused-opening-requires-4
     returns-4
+    refused-opening-requires-5
+    returns-5
     opened-requires
     accepted-requires
-    returns-5)
+    returns-6)

@@ -1,8 +1,8 @@
 -- `script::command` meets its contract: the reader goes forward, and not past the text's end.
-use borrow.Author.Needs.{needs}
 use Prim.Native.Nat.{_≤_, _<_}
 use lib.ListN.{length}
 use Rattle.script.proofs.Progress.{advances}
+use borrow.Author.Needs.{needs}
 use Rattle.script.proofs.command.Statement.{statement}
 use Rattle.script.proofs.command.Tie as tie
 
@@ -29,6 +29,12 @@ enum-known-word-2 c = search needs
 
 carry-out-requires : tie.Need-carry-out-requires
 carry-out-requires c κs = search needs
+
+enum-known-word-3 : tie.Need-enum-known-word-3
+enum-known-word-3 c = search needs
+
+deal-requires : tie.Need-deal-requires
+deal-requires c κs = search needs
 
 enum-told-2 : tie.Need-enum-told-2
 enum-told-2 c = search needs
@@ -81,6 +87,17 @@ same-length-6 c = search needs
 returns-4 : tie.Need-returns-4
 returns-4 c =
     let l = c .before .before .before .before in
+    advances (forward (l .before .before .before .before .before .before)) (l .deal .ensures)
+
+same-length-7 : tie.Need-same-length-7
+same-length-7 c = search needs
+
+same-length-8 : tie.Need-same-length-8
+same-length-8 c = search needs
+
+returns-5 : tie.Need-returns-5
+returns-5 c =
+    let l = c .before .before .before .before in
     advances (forward (l .before .before .before .before .before)) (l .carry-out2 .ensures)
 
 pub command-spec : {M : Type 1} → statement M
@@ -95,6 +112,8 @@ command-spec =
     show-requires
     enum-known-word-2
     carry-out-requires
+    enum-known-word-3
+    deal-requires
     enum-told-2
     carry-out-requires-2
     same-length
@@ -106,4 +125,7 @@ command-spec =
     returns-3
     same-length-5
     same-length-6
-    returns-4)
+    returns-4
+    same-length-7
+    same-length-8
+    returns-5)

@@ -1,5 +1,6 @@
 //! The auction that ends collecting: each security's price, and the pairing of
-//! the orders that reach it.
+//! the orders that reach it. No offer waits then: it enters only while open, and
+//! once it has a code, collecting doesn't start.
 
 use std::cmp::Reverse;
 

@@ -20,7 +20,7 @@ impl Engine {
 
     /// What so many lots cost at a price. By a nominal the sum of all lots is
     /// rounded down, once.
-    fn sum(&self, security: usize, price: u64, lots: u64) -> u64 {
+    pub fn sum(&self, security: usize, price: u64, lots: u64) -> u64 {
         let value = price * self.pieces_in(security, lots);
         match self.market.securities[security].nominal {
             NO_NOMINAL => value,
@@ -52,6 +52,7 @@ impl Engine {
         match order.kind {
             WaitingKind::Kept(price) => price,
             WaitingKind::Closing => self.state.traded[order.security].closing_price(),
+            WaitingKind::Offer(terms) => terms.price,
         }
     }
 

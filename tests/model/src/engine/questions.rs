@@ -1,8 +1,12 @@
 //! The questions before a call's answer, in their order.
 
-use super::{ensure, price_allowed, Engine, Position, CODE_LIMIT, LOTS_LIMIT, WAITING_LIMIT};
+use super::calendar::LAST_DAY;
+use super::{
+    ensure, price_allowed, Engine, Position, CODE_LIMIT, DEAL_LIMIT, DEAL_RATE_LIMIT,
+    FIRST_SUM_LIMIT, LOTS_LIMIT, TERMS, WAITING_LIMIT,
+};
 use crate::calls::{
-    refusal, ClosingEntry, Entry, EntryKind, Movement, Phase, Refused, Side, WaitingKind,
+    refusal, ClosingEntry, Entry, EntryKind, Movement, Offer, Phase, Refused, Side, WaitingKind,
     WaitingOrder,
 };
 
@@ -92,6 +96,33 @@ impl Engine {
         Ok(order)
     }
 
+    /// Questions 4 to 14 of an offer; the offer as it would wait.
+    pub(super) fn question_offer(&self, offer: &Offer) -> Result<WaitingOrder, Refused> {
+        let participant = self.known_participant(offer.participant)?;
+        let security = self.known_security(offer.security)?;
+        ensure(self.state.phase == Phase::Open, refusal::PHASE)?;
+        ensure((1..=LOTS_LIMIT).contains(&offer.lots), refusal::AMOUNT)?;
+        let line = &self.market.securities[security];
+        let terms = offer.terms;
+        ensure(price_allowed(line, terms.price), refusal::PRICE)?;
+        ensure(term_allowed(self.state.date, terms.term), refusal::DATE)?;
+        let first_sum = self.sum(security, terms.price, offer.lots);
+        let allowed = terms.rate <= DEAL_RATE_LIMIT && first_sum <= FIRST_SUM_LIMIT;
+        ensure(allowed, refusal::RATE_OR_FIRST_SUM)?;
+        ensure(self.state.waiting.len() < WAITING_LIMIT, refusal::BOOK_FULL)?;
+        ensure(self.state.deals.len() < DEAL_LIMIT, refusal::DEALS_FULL)?;
+        let order = WaitingOrder {
+            code: self.next_code()?,
+            participant,
+            side: offer.side,
+            security,
+            lots: offer.lots,
+            kind: WaitingKind::Offer(terms),
+        };
+        self.ask_reserve(&order)?;
+        Ok(order)
+    }
+
     fn next_code(&self) -> Result<u64, Refused> {
         ensure(self.state.codes_given < CODE_LIMIT, refusal::CODES_USED_UP)?;
         Ok(self.state.codes_given + 1)
@@ -118,4 +149,9 @@ impl Engine {
         let sum = |position: Position| position.free + position.blocked;
         known.iter().map(|row| sum(row[security])).sum()
     }
+}
+
+/// In range, and due within the table. The range keeps the sum small.
+pub(super) fn term_allowed(first_day: u64, term: u64) -> bool {
+    TERMS.contains(&term) && first_day + term <= LAST_DAY
 }

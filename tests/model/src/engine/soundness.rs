@@ -1,12 +1,14 @@
 //! Question 1: is the state sound? Asked over the known places only; places
 //! past the counts aren't read.
 
+use super::calendar::LAST_DAY;
+use super::questions::term_allowed;
 use super::{
     line_in_range, nominal_allowed, price_allowed, Engine, Position, CODE_LIMIT, CURRENCY_LIMIT,
-    LOTS_LIMIT, MONEY_LIMIT, PARTICIPANT_LIMIT, PIECES_LIMIT, PRICE_LIMIT, RATE_LIMIT,
-    SECURITY_LIMIT, WAITING_LIMIT,
+    DEAL_LIMIT, DEAL_RATE_LIMIT, FIRST_SUM_LIMIT, LOTS_LIMIT, MONEY_LIMIT, PARTICIPANT_LIMIT,
+    PIECES_LIMIT, PRICE_LIMIT, RATE_LIMIT, SECURITY_LIMIT, TERMS, WAITING_LIMIT,
 };
-use crate::calls::{Phase, Side, WaitingKind, WaitingOrder};
+use crate::calls::{Deal, Phase, Side, Terms, WaitingKind, WaitingOrder};
 
 /// Most pieces that one code's order can trade: 10,000 lots of 1,000.
 const PIECES_PER_CODE: u64 = 10_000_000;
@@ -24,6 +26,7 @@ impl Engine {
             && self.state.codes_given <= CODE_LIMIT
             && self.traded_sound()
             && self.orders_sound()
+            && self.deals_sound()
             && self.positions_sound()
     }
 
@@ -76,7 +79,41 @@ impl Engine {
             WaitingKind::Closing => {
                 self.state.phase == Phase::Closing && self.state.traded[order.security].pieces > 0
             }
+            WaitingKind::Offer(terms) => {
+                self.state.phase == Phase::Open && self.terms_sound(order.security, terms)
+            }
         }
+    }
+
+    /// Nothing of the date and the first sum: when an offer is met, they are
+    /// those of the entry, which was asked.
+    fn terms_sound(&self, security: usize, terms: Terms) -> bool {
+        price_allowed(&self.market.securities[security], terms.price)
+            && terms.rate <= DEAL_RATE_LIMIT
+            && TERMS.contains(&terms.term)
+    }
+
+    /// The oldest first, so that first days don't fall.
+    fn deals_sound(&self) -> bool {
+        let mut earlier_day = 0;
+        self.state.date <= LAST_DAY
+            && self.state.deals.len() <= DEAL_LIMIT
+            && self.state.deals.iter().all(|deal| {
+                let in_order = deal.first_day >= earlier_day;
+                earlier_day = deal.first_day;
+                in_order && self.deal_sound(deal)
+            })
+    }
+
+    fn deal_sound(&self, deal: &Deal) -> bool {
+        deal.buyer < self.market.participants
+            && deal.seller < self.market.participants
+            && deal.security < self.market.securities.len()
+            && (1..=LOTS_LIMIT).contains(&deal.lots)
+            && self.terms_sound(deal.security, deal.terms)
+            && deal.first_day <= self.state.date
+            && term_allowed(deal.first_day, deal.terms.term)
+            && self.sum(deal.security, deal.terms.price, deal.lots) <= FIRST_SUM_LIMIT
     }
 
     fn positions_sound(&self) -> bool {

@@ -130,7 +130,7 @@ impl Engine {
                     && order.security == security
                     && order.side != side
             }
-            WaitingKind::Closing => false,
+            WaitingKind::Closing | WaitingKind::Offer(_) => false,
         };
         let counters = self.state.waiting.iter().filter(fits);
         counters.map(|order| order.lots).sum()

@@ -93,6 +93,8 @@ impl Day {
             plan.squeezes,
             plan.spoiled,
             6,
+            plan.second_parts * 2,
+            plan.second_parts / 2,
         ];
         match self.weighted(&weights) {
             0 => {
@@ -103,7 +105,9 @@ impl Day {
             2 => self.write_movement(),
             3 => self.write_squeeze(),
             4 => self.write_spoiled(),
-            _ => self.write_unfit(),
+            5 => self.write_unfit(),
+            6 => self.write_second_part(),
+            _ => self.write_tight_second_part(),
         }
     }
 
@@ -143,7 +147,7 @@ impl Day {
 
     /// What the phase doesn't admit.
     fn write_unfit(&mut self) {
-        match self.random.below(7) {
+        match self.random.below(10) {
             0..=1 => {
                 let mut entry = self.entry();
                 entry.kind = self
@@ -158,6 +162,8 @@ impl Day {
             }
             4 => self.add(Call::StartClosing),
             5 => self.add(Call::EndSession),
+            6..=7 => self.write_offer(),
+            8 => self.write_unfit_day(),
             _ => self.add(Call::StartCollecting),
         }
     }

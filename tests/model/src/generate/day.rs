@@ -1,4 +1,4 @@
-//! The course of a generated day.
+//! The course of a generated day, and of those after it.
 
 use super::collecting::Collecting;
 use super::Plan;
@@ -159,6 +159,12 @@ impl Day {
             plan.phase_calls,
             plan.tight_groups,
             plan.price_edges,
+            plan.offers,
+            plan.offer_edges,
+            plan.tight_offers,
+            plan.second_parts,
+            plan.second_parts / 2,
+            plan.unfit_days,
         ];
         match self.weighted(&weights) {
             0 => self.write_order(),
@@ -170,7 +176,13 @@ impl Day {
             6 => self.write_spoiled(),
             7 => self.write_phase_call(),
             8 => self.write_tight_group(),
-            _ => self.write_price_edge(),
+            9 => self.write_price_edge(),
+            10 => self.write_offer(),
+            11 => self.write_offer_edge(),
+            12 => self.write_tight_offer(),
+            13 => self.write_second_part(),
+            14 => self.write_tight_second_part(),
+            _ => self.write_unfit_day(),
         }
     }
 
@@ -197,6 +209,10 @@ impl Day {
             1,
             plan.phase_calls,
             plan.tight_closing_orders,
+            plan.second_parts * 2,
+            plan.second_parts / 2,
+            plan.unfit_days,
+            plan.unfit_days,
         ];
         match self.weighted(&weights) {
             0 => {
@@ -210,12 +226,31 @@ impl Day {
             5 => self.write_spoiled(),
             6 => self.add(Call::StartClosing),
             7 => self.write_phase_call(),
-            _ => self.write_tight_closing_order(),
+            8 => self.write_tight_closing_order(),
+            9 => self.write_second_part(),
+            10 => self.write_tight_second_part(),
+            11 => self.write_unfit_day(),
+            _ => self.write_offer(),
         }
     }
 
     fn write_closed(&mut self) {
-        match self.weighted(&[3, 3, 3, 1, 1, 1, 3, self.plan.phase_calls]) {
+        let plan = self.plan;
+        let weights = [
+            3,
+            3,
+            3,
+            1,
+            1,
+            1,
+            3,
+            plan.phase_calls,
+            plan.new_days,
+            plan.second_parts,
+            plan.second_parts / 2,
+            plan.unfit_days,
+        ];
+        match self.weighted(&weights) {
             0 => self.write_order(),
             1 => self.write_cancel(),
             2 => self.write_movement(),
@@ -223,7 +258,11 @@ impl Day {
             4 => self.add(Call::StartClosing),
             5 => self.add(Call::EndSession),
             6 => self.write_spoiled(),
-            _ => self.write_phase_call(),
+            7 => self.write_phase_call(),
+            8 => self.write_new_day(),
+            9 => self.write_second_part(),
+            10 => self.write_tight_second_part(),
+            _ => self.write_offer(),
         }
     }
 }

@@ -1,7 +1,7 @@
 //! Calls with a number at an edge.
 
 use super::day::{highest_steps, Day};
-use crate::calls::{Call, Member};
+use crate::calls::{Call, Member, Offer};
 use crate::engine::{highest_price, LOTS_LIMIT, PRICE_LIMIT};
 
 /// Numbers at, just below and just above the limits.
@@ -40,6 +40,12 @@ const EDGES: [u64; 32] = [
     u64::MAX,
 ];
 
+/// The same of repurchase deals and dates.
+const DEAL_EDGES: [u64; 18] = [
+    0, 1, 2, 63, 64, 65, 364, 365, 366, 367, 4_999, 5_000, 5_001, 10_000, 146_095, 146_096,
+    146_097, 146_462,
+];
+
 impl Day {
     pub(super) fn spoil_member(&mut self, member: &mut Member) {
         match self.random.below(6) {
@@ -75,14 +81,20 @@ impl Day {
     /// A sensible call with one or more of its numbers spoiled; more than one
     /// shows in which order the questions are asked.
     pub(super) fn write_spoiled(&mut self) {
-        let mut call = match self.weighted(&[40, 10, 10, 20, 15, 1, 1]) {
+        let plan = self.plan;
+        let (offers, parts, days) = (plan.offers, plan.second_parts, plan.unfit_days);
+        let weights = [40, 10, 10, 20, 15, 1, 1, offers, parts, days];
+        let mut call = match self.weighted(&weights) {
             0 => Call::Enter(self.entry()),
             1 => self.cancel(),
             2 => self.group(),
             3 => self.movement(),
             4 => Call::EnterClosing(self.closing_entry()),
             5 => Call::EndSession,
-            _ => Call::EnterClosing(self.closing_entry()),
+            6 => Call::EnterClosing(self.closing_entry()),
+            7 => Call::EnterOffer(self.offer()),
+            8 => self.second_part(),
+            _ => self.new_day(),
         };
         let spoiled = self.random.pick(&[1, 1, 1, 2, 2, 3]);
         for _ in 0..spoiled {
@@ -93,13 +105,21 @@ impl Day {
 
     /// Puts one of the call's numbers at an edge, or one off.
     fn spoil_number(&mut self, call: &mut Call) {
+        let of_deals = matches!(
+            call,
+            Call::EnterOffer(_) | Call::SecondPart { .. } | Call::NewDay { .. }
+        );
         let mut numbers = numbers_of(call);
         if numbers.is_empty() {
             return;
         }
         let place = self.random.index(numbers.len());
         let number = *numbers[place];
-        let edge = self.random.pick(&EDGES);
+        let edge = if of_deals && self.random.chance(70) {
+            self.random.pick(&DEAL_EDGES)
+        } else {
+            self.random.pick(&EDGES)
+        };
         let one_off = self
             .random
             .pick(&[number.saturating_add(1), number.saturating_sub(1)]);
@@ -126,6 +146,9 @@ fn numbers_of(call: &mut Call) -> Vec<&mut u64> {
         Call::EnterClosing(entry) => {
             vec![&mut entry.participant, &mut entry.security, &mut entry.lots]
         }
+        Call::EnterOffer(offer) => offer_numbers(offer),
+        Call::SecondPart { place } => vec![place],
+        Call::NewDay { date } => vec![date],
         Call::Cancel { participant, code } => vec![participant, code],
         Call::Group {
             participant,
@@ -143,4 +166,15 @@ fn numbers_of(call: &mut Call) -> Vec<&mut u64> {
             Vec::new()
         }
     }
+}
+
+fn offer_numbers(offer: &mut Offer) -> Vec<&mut u64> {
+    vec![
+        &mut offer.participant,
+        &mut offer.security,
+        &mut offer.terms.price,
+        &mut offer.lots,
+        &mut offer.terms.rate,
+        &mut offer.terms.term,
+    ]
 }

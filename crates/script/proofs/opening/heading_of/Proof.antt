@@ -35,6 +35,9 @@ array-read-opening-2 c = search needs
 array-read-opening-3 : tie.Need-array-read-opening-3
 array-read-opening-3 c = search needs
 
+array-read-opening-4 : tie.Need-array-read-opening-4
+array-read-opening-4 c = search needs
+
 opening-requires : tie.Need-opening-requires
 opening-requires c κs = search needs
 
@@ -51,13 +54,13 @@ lines c = (right c) .before .before
 abbrev begun : tie.After-place-of → tie.Start
 begun c = (lines c) .before .before .before .before .before .before
 
-add-t20 : tie.Need-add-t20
-add-t20 c =
+add-t23 : tie.Need-add-t23
+add-t23 c =
     let few = (lines c) .securities-at .ensures ((right c) .if2 .left) in
     omega (arith, few, (begun c) .pre, place-small (c .before .opening .ensures), c .place-of .ensures)
 
-add-t17 : tie.Need-add-t17
-add-t17 c = omega (arith, (lines c) .securities-at .ensures ((right c) .if2 .left), (begun c) .pre)
+add-t20 : tie.Need-add-t20
+add-t20 c = omega (arith, (lines c) .securities-at .ensures ((right c) .if2 .left), (begun c) .pre)
 
 returns-3 : tie.Need-returns-3
 returns-3 c = search needs
@@ -76,8 +79,9 @@ heading-of-spec =
     array-read-opening
     array-read-opening-2
     array-read-opening-3
+    array-read-opening-4
     opening-requires
     place-of-requires
+    add-t23
     add-t20
-    add-t17
     returns-3)

@@ -1,6 +1,6 @@
 -- `script::opening::line_at` meets its contract: a line that is there takes a byte at least.
-use borrow.Author.Needs.{needs}
 use Rattle.market.proofs.Logic.{never}
+use borrow.Author.Needs.{needs}
 use Rattle.script.proofs.opening.line_at.Statement.{statement}
 use Rattle.script.proofs.opening.line_at.Tie as tie
 

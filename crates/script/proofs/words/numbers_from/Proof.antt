@@ -6,7 +6,7 @@ use Rattle.script.proofs.words.numbers_from.Statement.{statement}
 use Rattle.script.proofs.words.numbers_from.Tie as tie
 
 abbrev Inv-loop : tie.InvT-loop
-Inv-loop line from none list₀ count₀ at₀ list count at = (count ≤ 4) × (at ≤ length line)
+Inv-loop line from none list₀ count₀ at₀ list count at = (count ≤ 5) × (at ≤ length line)
 
 abbrev μ-loop : tie.MeasureT-loop
 μ-loop line from none list₀ count₀ at₀ list count at = length line - at

@@ -44,14 +44,29 @@ slice-aggregate-is-same-5 c = search needs
 is-same-requires-4 : tie.Need-is-same-requires-4
 is-same-requires-4 c κs = search needs
 
-lend-word-requires : tie.Need-lend-word-requires
-lend-word-requires c κs = search needs
+offer-word-requires : tie.Need-offer-word-requires
+offer-word-requires c κs = search needs
 
 returns-4 : tie.Need-returns-4
 returns-4 c = search needs
 
+numbers-from-requires : tie.Need-numbers-from-requires
+numbers-from-requires c κs = search needs
+
 returns-5 : tie.Need-returns-5
 returns-5 c = search needs
+
+slice-aggregate-counted-word : tie.Need-slice-aggregate-counted-word
+slice-aggregate-counted-word c = sym (length-take-le _ _ (c .before .before .before .before .before .before .before .find .ensures .1))
+
+element-copy-out-counted-word : tie.Need-element-copy-out-counted-word
+element-copy-out-counted-word c = search needs
+
+counted-word-requires : tie.Need-counted-word-requires
+counted-word-requires c κs = search needs
+
+returns-6 : tie.Need-returns-6
+returns-6 c = search needs
 
 pub word-of-spec : {M : Type 1} → statement M
 word-of-spec =
@@ -70,6 +85,11 @@ word-of-spec =
     slice-aggregate-is-same-4
     slice-aggregate-is-same-5
     is-same-requires-4
-    lend-word-requires
+    offer-word-requires
     returns-4
-    returns-5)
+    numbers-from-requires
+    returns-5
+    slice-aggregate-counted-word
+    element-copy-out-counted-word
+    counted-word-requires
+    returns-6)

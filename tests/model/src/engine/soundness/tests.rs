@@ -2,12 +2,13 @@
 //! day file or script reaches: 1 and 13.
 
 use crate::calls::{
-    refusal, refused, Call, ClosingEntry, Entry, EntryKind, Movement, Opening, Phase, SecurityLine,
-    Side, Trade, WaitingKind,
+    refusal, refused, Call, ClosingEntry, Entry, EntryKind, Movement, Offer, Opening, Phase,
+    SecurityLine, Side, Terms, Trade, WaitingKind,
 };
+use crate::engine::calendar::LAST_DAY;
 use crate::engine::{
-    Engine, CODE_LIMIT, LIST_LENGTH, LOTS_LIMIT, LOT_SIZE_LIMIT, MONEY_LIMIT, NO_NOMINAL,
-    PIECES_LIMIT, PRICE_LIMIT, RATE_LIMIT,
+    Engine, CODE_LIMIT, DEAL_LIMIT, LIST_LENGTH, LOTS_LIMIT, LOT_SIZE_LIMIT, MONEY_LIMIT,
+    NO_NOMINAL, PIECES_LIMIT, PRICE_LIMIT, RATE_LIMIT,
 };
 
 fn entry(participant: u64, side: Side, price: u64, lots: u64) -> Call {
@@ -61,6 +62,7 @@ fn opened_by(nominal: u64, rate: u64) -> Engine {
         currencies: 1,
         securities: vec![line, line],
         rate,
+        date: 0,
     };
     let mut engine = Engine::open(&opening, true).expect("the opening is in range");
     let reserves = [
@@ -487,4 +489,212 @@ fn codes_are_used_up() {
     assert_eq!(answer, Err(refused(refusal::CODES_USED_UP)));
     let unpaid = engine.call(&entry(1, Side::Buy, 1_000_000, 10_000), &mut Vec::new());
     assert_eq!(unpaid, Err(refused(refusal::CODES_USED_UP)));
+}
+
+const TERMS: Terms = Terms {
+    price: 100,
+    rate: 500,
+    term: 7,
+};
+
+fn offer(participant: u64, side: Side, lots: u64) -> Call {
+    Call::EnterOffer(Offer {
+        participant,
+        side,
+        security: 0,
+        lots,
+        terms: TERMS,
+    })
+}
+
+/// A deal of day 1,000, one of day 1,001, and a sell offer waiting.
+fn dealing() -> Engine {
+    let mut engine = opened();
+    engine.state.date = 1_000;
+    run(
+        &mut engine,
+        &[offer(1, Side::Sell, 10), offer(0, Side::Buy, 10)],
+    );
+    engine.state.date = 1_001;
+    let later = [
+        offer(0, Side::Buy, 5),
+        offer(1, Side::Sell, 5),
+        offer(1, Side::Sell, 3),
+    ];
+    run(&mut engine, &later);
+    engine
+}
+
+#[test]
+fn date_and_deals() {
+    assert_each_unsound(
+        dealing,
+        &[
+            ("date after the last", |it| it.state.date = LAST_DAY + 1),
+            ("date near the greatest number", |it| {
+                it.state.date = u64::MAX
+            }),
+            ("unknown buyer", |it| it.state.deals[0].buyer = 2),
+            ("unknown seller", |it| it.state.deals[1].seller = 2),
+            ("unknown security", |it| it.state.deals[0].security = 2),
+            ("no lots", |it| it.state.deals[1].lots = 0),
+            ("10,001 lots", |it| it.state.deals[0].lots = 10_001),
+            ("first day after the date", |it| {
+                it.state.deals[1].first_day = 1_002
+            }),
+            ("first day near the greatest number", |it| {
+                it.state.deals[1].first_day = u64::MAX
+            }),
+            ("falling first days", |it| it.state.deals.swap(0, 1)),
+        ],
+    );
+}
+
+#[test]
+fn terms_of_deals() {
+    assert_each_unsound(
+        dealing,
+        &[
+            ("price 0", |it| it.state.deals[0].terms.price = 0),
+            ("price off the step", |it| {
+                it.state.deals[0].terms.price = 101
+            }),
+            ("price too high", |it| {
+                it.state.deals[1].terms.price = 1_000_005
+            }),
+            ("price above 20,000 by a nominal", |it| {
+                it.market.securities[1].nominal = 10_000;
+                it.state.deals[1].security = 1;
+                it.state.deals[1].terms.price = 20_005;
+            }),
+            ("rate 5,001", |it| it.state.deals[1].terms.rate = 5_001),
+            ("term 0", |it| it.state.deals[0].terms.term = 0),
+            ("term 366", |it| it.state.deals[0].terms.term = 366),
+            ("term near the greatest number", |it| {
+                it.state.deals[1].terms.term = u64::MAX
+            }),
+            ("due after the last day", |it| {
+                it.state.date = LAST_DAY;
+                it.state.deals[1].first_day = LAST_DAY - 6;
+            }),
+            ("first sum above 10^10", |it| {
+                it.state.deals[1].terms.price = PRICE_LIMIT;
+                it.state.deals[1].lots = 1_001;
+            }),
+        ],
+    );
+}
+
+/// At each limit, and with equal first days.
+#[test]
+fn deals_up_to_their_limits() {
+    let mut engine = dealing();
+    engine.state.date = LAST_DAY;
+    engine.state.deals[0].first_day = LAST_DAY - 7;
+    engine.state.deals[1].first_day = LAST_DAY - 7;
+    let deal = &mut engine.state.deals[1];
+    deal.terms.price = PRICE_LIMIT;
+    deal.lots = 1_000;
+    deal.terms.rate = 5_000;
+    engine.state.deals[0].terms.term = 1;
+    engine.state.deals[0].seller = 0;
+    assert!(engine.is_sound());
+    engine.state.deals[1].first_day -= 358;
+    engine.state.deals[0].first_day -= 358;
+    engine.state.deals[1].terms.term = 365;
+    assert!(engine.is_sound());
+    let deal = engine.state.deals[1];
+    engine.state.deals.resize(DEAL_LIMIT, deal);
+    assert!(engine.is_sound());
+    assert_unsound("65 deals", engine, |it| {
+        it.state.deals.push(it.state.deals[1])
+    });
+}
+
+/// The terms of the offer that waits.
+fn offered(engine: &mut Engine) -> &mut Terms {
+    match &mut engine.state.waiting[0].kind {
+        WaitingKind::Offer(terms) => terms,
+        kind => panic!("{kind:?} waits"),
+    }
+}
+
+#[test]
+fn waiting_offers() {
+    assert_each_unsound(
+        dealing,
+        &[
+            ("price 0", |it| offered(it).price = 0),
+            ("price off the step", |it| offered(it).price = 101),
+            ("rate 5,001", |it| offered(it).rate = 5_001),
+            ("term 0", |it| offered(it).term = 0),
+            ("term 366", |it| offered(it).term = 366),
+            ("no lots", |it| it.state.waiting[0].lots = 0),
+            ("code above those given", |it| it.state.codes_given = 4),
+            ("pieces not blocked", |it| {
+                it.state.pieces[1][0].blocked -= 30
+            }),
+            ("offer while collecting", |it| {
+                it.state.phase = Phase::Collecting
+            }),
+            ("offer while closing", |it| it.state.phase = Phase::Closing),
+            ("offer once closed", |it| it.state.phase = Phase::Closed),
+        ],
+    );
+}
+
+/// Of an offer that waits neither the due day nor the first sum is asked; of
+/// the one that would meet it both are.
+#[test]
+fn what_is_asked_of_the_entry_alone() {
+    let mut engine = dealing();
+    engine.state.date = LAST_DAY;
+    offered(&mut engine).price = PRICE_LIMIT;
+    engine.state.waiting[0].lots = 1_001;
+    engine.state.pieces[1][0].blocked = 10_010;
+    assert!(engine.is_sound());
+    let Call::EnterOffer(mut counter) = offer(0, Side::Buy, 1_001) else {
+        unreachable!("an offer is entered");
+    };
+    counter.terms.price = PRICE_LIMIT;
+    let undue = engine.call(&Call::EnterOffer(counter), &mut Vec::new());
+    assert_eq!(undue, Err(refused(refusal::DATE)));
+    engine.state.date = LAST_DAY - 7;
+    let too_large = engine.call(&Call::EnterOffer(counter), &mut Vec::new());
+    assert_eq!(too_large, Err(refused(refusal::RATE_OR_FIRST_SUM)));
+}
+
+/// 26 comes before 13, 13 before 14.
+#[test]
+fn codes_are_used_up_by_offers() {
+    let mut engine = dealing();
+    engine.state.codes_given = CODE_LIMIT - 1;
+    run(&mut engine, &[offer(0, Side::Buy, 1)]);
+    let unpaid = offer(1, Side::Buy, 10_000);
+    let answer = engine.call(&unpaid, &mut Vec::new());
+    assert_eq!(answer, Err(refused(refusal::CODES_USED_UP)));
+    let deal = engine.state.deals[1];
+    engine.state.deals.resize(DEAL_LIMIT, deal);
+    let answer = engine.call(&unpaid, &mut Vec::new());
+    assert_eq!(answer, Err(refused(refusal::DEALS_FULL)));
+}
+
+/// 1 before 2 and 4, before 16, and before 6 and 24.
+#[test]
+fn the_calls_of_deals_ask_question_1() {
+    let mut engine = dealing();
+    engine.state.money[0][0].blocked += 1;
+    let before = engine.clone();
+    let calls = [
+        offer(2, Side::Buy, 0),
+        Call::SecondPart { place: 0 },
+        Call::SecondPart { place: 1 },
+        Call::NewDay { date: 0 },
+        Call::NewDay { date: 2_000 },
+    ];
+    for call in calls {
+        let answer = engine.call_lent(&call, LIST_LENGTH - 1, &mut Vec::new());
+        assert_eq!(answer, Err(refused(refusal::UNSOUND)), "{call:?}");
+    }
+    assert!(engine == before, "a refusal changes nothing");
 }

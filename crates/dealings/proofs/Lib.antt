@@ -1,0 +1,5 @@
+pub mod Acting
+pub mod Asking
+pub mod Offering
+pub mod Recording
+pub mod Second

@@ -1,0 +1,5 @@
+pub mod LedgerBook
+pub mod Statement
+pub mod OverStates
+pub mod SoundKept
+pub mod Edge
