@@ -1,4 +1,3 @@
-pub mod Acting
 pub mod Asking
 pub mod Offering
 pub mod Recording

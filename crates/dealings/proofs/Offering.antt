@@ -32,6 +32,7 @@ use Rattle.market.proofs.Logic.{within-high}
 use Rattle.market.proofs.Questions.{AllYes, all-yes, yes}
 use Rattle.market.proofs.View.{cut-length}
 use Rattle.market.proofs.Acts.{offered-answer}
+use Rattle.market.proofs.LedgerParts.{act-accept, act-refuse}
 use Rattle.invariant.specs.Standing.{Placeable, Standing}
 use Rattle.invariant.proofs.Offers.{AtMostOne, FirstOk, offer-placeable, offered-trades}
 use Rattle.waiting.specs.Appending.{Admits}
@@ -40,7 +41,6 @@ use Rattle.orders.proofs.Answered as orders
 use Rattle.offers.specs.Offering.{Offerable, OfferedAs, Offers}
 use Rattle.dealings.specs.Asking.{Accepted, Narrow, offerNo, offerWith}
 use Rattle.dealings.specs.Recording.{Adds, Limited, Readable, dealsIn}
-use Rattle.dealings.proofs.Acting.{act-carries, act-declines}
 use Rattle.dealings.proofs.Asking.{narrow}
 use Rattle.dealings.proofs.Recording.{deal-readable, deals-read}
 use Rattle.dealings.proofs.Second.{day-right, rules-right, standing}
@@ -66,7 +66,7 @@ module _ {r : Rules} {x : Phase} {m k : List ℕ} {b : OrderBook} {z : Records} 
     pub refuse-short : length v < lentAtLeast → refuses 2
     unfolding actQuestions
     refuse-short h =
-        act-declines r x m k b z v act (ready .sound) 2 (omega arith) (rw (lt-leb lentAtLeast (length v) h))
+        act-refuse r x m k b z v act (ready .sound) 2 (omega arith) (rw (lt-leb lentAtLeast (length v) h))
 
     from-four : lentAtLeast ≤ length v
         → firstNo (actQuestions (ledgerOf r x m k b z) (length v) act) ≡ offerNo r x m k b z p ticket rate term
@@ -74,7 +74,7 @@ module _ {r : Rules} {x : Phase} {m k : List ℕ} {b : OrderBook} {z : Records} 
     from-four lent = rw (le-leb lentAtLeast (length v) lent)
 
     pub refuse-first : lentAtLeast ≤ length v → (n : ℕ) → 0 < n → n ≡ offerNo r x m k b z p ticket rate term → refuses n
-    refuse-first lent n h e = act-declines r x m k b z v act (ready .sound) n h (from-four lent ∙ sym e)
+    refuse-first lent n h e = act-refuse r x m k b z v act (ready .sound) n h (from-four lent ∙ sym e)
 
 -- all its questions are answered "yes"
 module _ {r : Rules} {x : Phase} {m k : List ℕ} {b : OrderBook} {z : Records} {p : ℕ} {ticket : Ticket} {rate term : ℕ} {v : List ℕ}
@@ -175,6 +175,6 @@ module _ {r : Rules} {x : Phase} {m k : List ℕ} {b : OrderBook} {z : Records} 
         })
     unfolding actEffect
     offer-done adds =
-        act-carries r x m k b z v (offer p ticket rate term) (a .ready .sound) m′ k′ v′ _
+        act-accept r x m k b z v (offer p ticket rate term) (a .ready .sound) m′ k′ v′ _
         (from-four (a .ready) p ticket rate term v (a .lent) ∙ a .asked) (done .answer)
         (joined (done .day) (adds .date) (adds .deals ∙ ap (λ (w : List Deal). firstDeals (z .count) (z .deals) ++ w) read)) (done .list)

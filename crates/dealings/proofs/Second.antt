@@ -39,13 +39,13 @@ use Rattle.market.proofs.Questions.{all-yes, yes}
 use Rattle.market.proofs.Deals.{DealOk, deal-ok, records-ok}
 use Rattle.market.proofs.View.{cut-at, cut-length}
 use Rattle.market.proofs.Acts.{ledger-day, ledger-records}
+use Rattle.market.proofs.LedgerParts.{act-accept, act-refuse}
 use Rattle.deals.proofs.OpenDeals.{deal-right, few-deals}
 use Rattle.invariant.specs.Standing.{Standing}
 use Rattle.invariant.proofs.Sound.{sound-standing}
 use Rattle.invariant.proofs.Held.{held-cell, held-within}
 use Rattle.dealings.specs.declared.Part.{Part}
 use Rattle.dealings.specs.Second.{Ends, Handable, Payable, Pays, paidMoney, paidPieces, partOf, partQuestions}
-use Rattle.dealings.proofs.Acting.{act-carries, act-declines}
 
 -- once an amount has gone out, there is room for it where it goes, also where it came from
 pub room-after : {l : List ℕ} {i j a : ℕ} → Handable l i j a → {m : List ℕ} → m ≡ change l i (draw a)
@@ -113,7 +113,7 @@ module _ (r : Rules) (x : Phase) (m k : List ℕ) (b : OrderBook) (z : Records) 
     pub second-none : within 1 (z .count) place ≡ false → (v : List ℕ) → CarriesAct r x m k b z v (secondPart place) m k v (out 16)
     unfolding actQuestions
     second-none h v =
-        act-declines r x m k b z v (secondPart place) (ready .sound) 16 (omega arith) (rw (cut-length noDeal (z .count) (z .deals), h))
+        act-refuse r x m k b z v (secondPart place) (ready .sound) 16 (omega arith) (rw (cut-length noDeal (z .count) (z .deals), h))
 
     module _ (h : within 1 (z .count) place ≡ true) where
       pub second-place : (1 ≤ place) × (place - 1 < z .count)
@@ -155,7 +155,7 @@ module _ (r : Rules) (x : Phase) (m k : List ℕ) (b : OrderBook) (z : Records) 
 
       pub second-no : (n : ℕ) → 0 < n → n ≡ firstNo (partQuestions (z .date) part m k) → (v : List ℕ)
           → CarriesAct r x m k b z v (secondPart place) m k v (out n)
-      second-no n some e v = act-declines r x m k b z v (secondPart place) (ready .sound) n some (asked v ∙ sym e)
+      second-no n some e v = act-refuse r x m k b z v (secondPart place) (ready .sound) n some (asked v ∙ sym e)
 
       module _ (none : firstNo (partQuestions (z .date) part m k) ≡ 0) where
         low : (y : Asset) → totalLimit y ≤ moneyLimit
@@ -194,7 +194,7 @@ module _ (r : Rules) (x : Phase) (m k : List ℕ) (b : OrderBook) (z : Records) 
             (record { carried = record { answer = Done 0 0 0 0; phase = x; book = b }; records = z′ })
         unfolding actEffect secondPaid handed
         second-done em ek ends v =
-            act-carries r x m k b z v (secondPart place) (ready .sound) _ _ v _ (asked v ∙ none) refl
+            act-accept r x m k b z v (secondPart place) (ready .sound) _ _ v _ (asked v ∙ none) refl
             (rw (em, ek, ends .date, ends .deals, same)) refl
 
   -- a new day, of this date
@@ -206,19 +206,19 @@ module _ (r : Rules) (x : Phase) (m k : List ℕ) (b : OrderBook) (z : Records) 
 
     pub day-phase : admits x NewDay ≡ false → refuses 6
     unfolding actQuestions
-    day-phase h = act-declines r x m k b z v (newDay date) (ready .sound) 6 (omega arith) (rw h)
+    day-phase h = act-refuse r x m k b z v (newDay date) (ready .sound) 6 (omega arith) (rw h)
 
     module _ (h : admits x NewDay ≡ true) where
       pub day-past : date ≤ z .date → refuses 24
       unfolding actQuestions _and_
       day-past e =
-          act-declines r x m k b z v (newDay date) (ready .sound) 24 (omega arith) (rw (h, le-ltb (z .date) date e))
+          act-refuse r x m k b z v (newDay date) (ready .sound) 24 (omega arith) (rw (h, le-ltb (z .date) date e))
 
       module _ (later : z .date < date) where
         pub day-far : lastDay < date → refuses 24
         unfolding actQuestions _and_
         day-far e =
-            act-declines r x m k b z v (newDay date) (ready .sound) 24 (omega arith)
+            act-refuse r x m k b z v (newDay date) (ready .sound) 24 (omega arith)
             (rw (h, lt-ltb (z .date) date later, lt-leb date lastDay e))
 
         pub day-begins : date ≤ lastDay
@@ -241,5 +241,5 @@ module _ (r : Rules) (x : Phase) (m k : List ℕ) (b : OrderBook) (z : Records) 
             })
         unfolding actQuestions actEffect begins _and_
         day-begins e =
-            act-carries r x m k b z v (newDay date) (ready .sound) m k v _
+            act-accept r x m k b z v (newDay date) (ready .sound) m k v _
             (rw (h, lt-ltb (z .date) date later, le-leb date lastDay e)) refl refl refl
