@@ -20,7 +20,7 @@ use market::Turnover;
 use market::book_of;
 use market::state_of;
 
-// Printing: a label, then an answer, a position or eight numbers of the trade list.
+// Printing: a label, then an answer, a position, the counts of codes or eight numbers of the trade list.
 fn text(bytes: &[u8]) {
     io::write_all(STDOUT_FILENO, bytes);
 }
@@ -78,6 +78,23 @@ pub fn money(label: &[u8], s: State, place: usize) {
     if place < 272 {
         position(label, s.money[2 * place], s.money[2 * place + 1]);
     }
+}
+
+// Codes given, at each of the 16 places.
+pub fn counts(label: &[u8], s: State) {
+    let codes = s.codes;
+    text(label);
+    four(codes[0], codes[1], codes[2], codes[3]);
+    four(codes[4], codes[5], codes[6], codes[7]);
+    four(codes[8], codes[9], codes[10], codes[11]);
+    four(codes[12], codes[13], codes[14], codes[15]);
+    text(b"\n");
+}
+
+// Code and arrival of the order that waits longest; no call shows an arrival.
+pub fn code_and_arrival(label: &[u8], s: State) {
+    let o = s.orders[0];
+    position(label, o.code, o.arrival as u64);
 }
 
 // Eight numbers of the trade list from `first` on, as many as one trade takes.
@@ -139,6 +156,23 @@ pub fn with_pieces(s: State, place: usize, free: u64, blocked: u64) -> State {
     t
 }
 
+// The state with so many codes given to this participant.
+pub fn with_codes(s: State, participant: usize, count: u64) -> State {
+    let mut t = s;
+    if participant < 16 {
+        t.codes[participant] = count;
+    }
+    t
+}
+
+// The state with this count at every place past two participants.
+pub fn with_counts_past(s: State, count: u64) -> State {
+    let codes = s.codes;
+    let mut t = s;
+    t.codes = [count; 16];
+    with_codes(with_codes(t, 0, codes[0]), 1, codes[1])
+}
+
 pub fn with_phase(s: State, phase: Phase) -> State {
     let cash = s.money;
     let stock = s.pieces;
@@ -186,6 +220,7 @@ pub fn with_unread() -> State {
         value: 0,
     };
     s.orders[0] = sell_order(18446744073709551615, 99, 99, 0, Kind::Closing);
+    let s = with_counts_past(s, 18446744073709551615);
     with_deals(s, 0, anything(), 0)
 }
 
@@ -204,21 +239,28 @@ pub fn bond(nominal: u64) -> Security {
     }
 }
 
+// Its arrival is its code, cut to 32 bits.
 pub fn sell_order(code: u64, participant: u64, security: u64, lots: u64, kind: Kind) -> Order {
     Order {
         code,
         participant,
         side: Side::Sell,
+        arrival: (code % 4294967296) as u32,
         security,
         lots,
         kind,
     }
 }
 
-// 4 codes given, 100 pieces of participant 1 in security 0 blocked, this order waiting.
+pub fn arrived(o: Order, arrival: u32) -> Order {
+    let mut next = o;
+    next.arrival = arrival;
+    next
+}
+
+// 4 codes given to participant 1, 100 pieces of his in security 0 blocked, this order waiting.
 pub fn waiting(o: Order) -> State {
-    let mut s = with_pieces(day(), 16, 0, 100);
-    s.codes = 4;
+    let mut s = with_codes(with_pieces(day(), 16, 0, 100), 1, 4);
     s.orders[0] = o;
     s.count = 1;
     s
@@ -241,6 +283,42 @@ pub fn asked_closing(label: &[u8], kind: Kind, pieces: u64, value: u64) {
 
 pub fn asked_collecting(label: &[u8], kind: Kind, pieces: u64, value: u64) {
     asked(label, in_phase(Phase::Collecting, kind, pieces, value));
+}
+
+// 5 lots of each participant wait at 95 on this side. Participant 0 has money and pieces free, too.
+fn blocked_for_both(side: Side) -> State {
+    let s = with_pieces(with_money(day(), 0, 100000, 0), 0, 100, 0);
+    match side {
+        Side::Buy => with_money(with_money(s, 0, 100000, 4750), 16, 0, 4750),
+        Side::Sell => with_pieces(with_pieces(s, 0, 100, 50), 16, 0, 50),
+    }
+}
+
+fn five_lots(code: u64, participant: u64, side: Side, arrival: u32, kind: Kind) -> Order {
+    Order {
+        code,
+        participant,
+        side,
+        arrival,
+        security: 0,
+        lots: 5,
+        kind,
+    }
+}
+
+// Two orders of one side and price, 95: participant 1's older one with this code, then participant 0's code 2. Of 9 codes
+// participant 0 has 5. Closing orders have that price by Q and T.
+pub fn aged(code: u64, side: Side, kind: Kind, phase: Phase) -> State {
+    let s = with_codes(blocked_for_both(side), 0, 5);
+    let mut s = with_codes(s, 1, 4);
+    s.turnover[0] = Turnover {
+        pieces: 10,
+        value: 950,
+    };
+    s.orders[0] = five_lots(code, 1, side, 8, kind);
+    s.orders[1] = five_lots(2, 0, side, 9, kind);
+    s.count = 2;
+    with_phase(s, phase)
 }
 
 // Participant 0 has 100000 in money, participant 1 has 200 pieces of security 0.
@@ -268,11 +346,10 @@ pub fn sell(security: u64, price: u64, lots: u64) -> Ticket {
     }
 }
 
-// A kept order whose trades are not looked at.
-pub fn order(s: State, participant: u64, t: Ticket) -> Outcome {
+// An order whose trades are not looked at.
+pub fn entered(s: State, participant: u64, t: Ticket, force: TimeInForce) -> Outcome {
     let mut trades = [0u64; 1088];
     let side = t.side;
-    let force = TimeInForce::Kept;
     enter_order(
         s,
         participant,
@@ -283,6 +360,10 @@ pub fn order(s: State, participant: u64, t: Ticket) -> Outcome {
         force,
         &mut trades,
     )
+}
+
+pub fn order(s: State, participant: u64, t: Ticket) -> Outcome {
+    entered(s, participant, t, TimeInForce::Kept)
 }
 
 pub fn kept(s: State, participant: u64, t: Ticket) -> State {

@@ -9,7 +9,6 @@ use types.Run.{miss}
 use borrow.Author.Tests.{le-leb, le-ltb, leb-false, leb-true, lt-leb, lt-ltb, ltb-true}
 use Rattle.market.specs.declared.Access.{Access}
 use Rattle.market.specs.declared.Answer.{Answer}
-use Rattle.market.specs.declared.Access.{Access}
 use Rattle.market.specs.declared.Answer.the-variants.{Refused}
 use Rattle.market.specs.declared.Carried.{Carried}
 use Rattle.market.specs.declared.OrderBook.{OrderBook}
@@ -27,18 +26,20 @@ use Rattle.market.specs.Sound.{sound}
 use Rattle.market.specs.TradeList.{written}
 use Rattle.market.specs.Answers.{numbersOf, refused}
 use Rattle.market.specs.Calls.{Call}
-use Rattle.market.specs.Questions.{closingQuestions, entryQuestions}
+use Rattle.market.specs.Questions.{Question, closingQuestions, entryQuestions}
 use Rattle.market.specs.Step.{result, step}
 use Rattle.market.specs.Parts.{Carries, Ready}
 use Rattle.market.proofs.Logic.{and-true}
-use Rattle.market.proofs.Questions.{all-yes, yes}
+use Rattle.market.proofs.Questions.{AllYes, all-yes, yes}
 use Rattle.conservation.proofs.Counts.{result-counts}
 use Rattle.conservation.proofs.Demand.{sound-kept}
 use Rattle.heading.specs.Heading.{malformed}
 use Rattle.lines.specs.declared.Line.{Line}
 use Rattle.lines.specs.declared.Line.the-variants as line
 use Rattle.reading.proofs.Tags.{OtherLine, callTag, otherLines}
+use Rattle.codes.specs.Numbers.{Numberable}
 use Rattle.orders.specs.Entering.{EntryNo, Known}
+use Rattle.orders.proofs.Asking.{counted}
 use Rattle.session.specs.Asking.{Askable, ClosingNo}
 use Rattle.commands.specs.Command.{Does, called, carried}
 use Rattle.commands.specs.Stand.{goesOn, room}
@@ -87,34 +88,63 @@ no-call d (line.Security a b c) ms h = refl
 no-call d (line.Member m) ms h = refl
 no-call d line.Malformed ms h = refl
 
+-- an order book of which this turnover, count and codes are known
+abbrev bookWith : List Turnover → ℕ → List ℕ → OrderBook
+bookWith t count codes =
+    record { orders = []; count = count; codes = codes; turnover = t; filled = 0; left = 0; trades = 0; code = 0 }
+
 -- an order whose questions 4 to 14 are answered "yes"
-module _ (r : Rules) (x : Phase) (t : List Turnover) (count codes : ℕ) (m k : List ℕ) (p : ℕ) (q : Ticket)
+module _ (r : Rules) (x : Phase) (t : List Turnover) (count : ℕ) (codes m k : List ℕ) (p : ℕ) (q : Ticket)
     (a : Access) (f : TimeInForce) where
   pub entry-none : {n : ℕ} → n ≤ 0 → EntryNo r x t count codes m k p q a f n → EntryNo r x t count codes m k p q a f 0
   entry-none h asks = λ b e1 e2 e3. let e = asks b e1 e2 e3 in omega (arith, e, h)
 
+  abbrev entryAsked : List Question
+  entryAsked = entryQuestions (dayOf r x m k (bookWith t count codes)) p q a f
+
+  entry-yes : EntryNo r x t count codes m k p q a f 0 → AllYes entryAsked
+  entry-yes asks = all-yes entryAsked tt (sym (asks (bookWith t count codes) refl refl refl))
+
+  pub entry-owned : Known r codes → EntryNo r x t count codes m k p q a f 0 → Numberable (r .participants) codes p
+  entry-owned known asks = counted known (ltb-true p (r .participants) (yes 4 entryAsked (entry-yes asks)))
+
   pub entry-listed : Known r codes → EntryNo r x t count codes m k p q a f 0 → q .security < maxSecurities
   entry-listed known asks =
-      let b : OrderBook =
-      record { orders = []; count = count; codes = codes; turnover = t; filled = 0; left = 0; trades = 0 } in
-      let qs = entryQuestions (dayOf r x m k b) p q a f in
-      let y = all-yes qs tt (sym (asks b refl refl refl)) in
-      omega (arith, ltb-true (q .security) (r .securities) (yes 5 qs y), known .rules .securities)
+      omega (
+        arith,
+        ltb-true (q .security) (r .securities) (yes 5 entryAsked (entry-yes asks)),
+        known .rules .securities,
+      )
 
 -- a closing order whose questions are all answered "yes"
-module _ (r : Rules) (x : Phase) (t : List Turnover) (count codes : ℕ) (m k : List ℕ) (p : ℕ) (side : Side) (s n : ℕ) where
+module _ (r : Rules) (x : Phase) (t : List Turnover) (count : ℕ) (codes m k : List ℕ) (p : ℕ) (side : Side) (s n : ℕ) where
   pub closing-none : {i : ℕ} → i ≤ 0 → ClosingNo r x t count codes m k p side s n i
       → ClosingNo r x t count codes m k p side s n 0
   closing-none h asks = λ b e1 e2 e3. let e = asks b e1 e2 e3 in omega (arith, e, h)
 
+  abbrev closingAsked : List Question
+  closingAsked = closingQuestions (dayOf r x m k (bookWith t count codes)) p side s n
+
+  closing-yes : ClosingNo r x t count codes m k p side s n 0 → AllYes closingAsked
+  unfolding closingQuestions
+  closing-yes asks = all-yes closingAsked tt (sym (asks (bookWith t count codes) refl refl refl))
+
+  pub closing-owned : Askable r t codes → ClosingNo r x t count codes m k p side s n 0 → Numberable (r .participants) codes p
+  unfolding closingQuestions
+  closing-owned known asks = record {
+    few = known .rules .participants;
+    codes = known .codes;
+    participant = ltb-true p (r .participants) (yes 4 closingAsked (closing-yes asks));
+  }
+
   pub closing-listed : Askable r t codes → ClosingNo r x t count codes m k p side s n 0 → s < maxSecurities
   unfolding closingQuestions
   closing-listed known asks =
-      let b : OrderBook =
-      record { orders = []; count = count; codes = codes; turnover = t; filled = 0; left = 0; trades = 0 } in
-      let qs = closingQuestions (dayOf r x m k b) p side s n in
-      let y = all-yes qs tt (sym (asks b refl refl refl)) in
-      omega (arith, ltb-true s (r .securities) (yes 5 qs y), known .rules .securities)
+      omega (
+        arith,
+        ltb-true s (r .securities) (yes 5 closingAsked (closing-yes asks)),
+        known .rules .securities,
+      )
 
 -- is there a command, and room for it?
 pub text-over : (all at size filled : ℕ) → all ≤ at → false ≡ goesOn all at size filled

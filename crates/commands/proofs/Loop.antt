@@ -1,7 +1,7 @@
 -- A command in the loop: by what came of its line before any waiting order was read.
 use Prim.Native.Nat.{ℕ, _<_}
 use native.Mathlib.Omega.{arith}
-use mathlib.Core.Path.{_≡_, refl, sym, subst}
+use mathlib.Core.Path.{_≡_, refl, ap, sym, subst, _∙_}
 use mathlib.Core.List.{List}
 use mathlib.Core.Bool.{true, false}
 use lib.ListN.{length}
@@ -28,8 +28,9 @@ use Rattle.waiting.specs.Leaving.{Leavable, Leaves}
 use Rattle.orders.specs.declared.Found.{Found}
 use Rattle.orders.specs.declared.Found.the-variants.{At, Nothing}
 use Rattle.orders.specs.Finding.{OfSecurity, foundAt}
-use Rattle.orders.specs.Entering.{Enterable, Enters, fillableIn}
+use Rattle.orders.specs.Entering.{Enterable, Enters, claimWith, fillableIn}
 use Rattle.orders.proofs.Cancelling.{cancel-carries, cancel-none, found-known, found-leaves}
+use Rattle.orders.proofs.Asking.{numbered-alike}
 use Rattle.orders.proofs.Calling.{enterable, order-enters, refuse-whole, rules-known}
 use Rattle.waiting.specs.Appending.{Appendable, Appends}
 use Rattle.session.proofs.Asking as closing
@@ -70,6 +71,10 @@ module _ (says : Line) (ms : List Ticket) (r : Rules) (x : Phase) (m k : List �
     none : firstNo (entryQuestions (dayOf r x m k b) (admits .2 .participant) (admits .2 .ticket) (orderAccess f) f) ≡ 0
     none = sym ((admits .2 .asked) b refl refl refl)
 
+    -- question 15 of the entry is that of the claim
+    of-claim : fillableIn f (waitingIn b) e ≡ fillableIn f (waitingIn b) (claimWith (admits .2 .participant) (admits .2 .ticket))
+    of-claim = ap (fillableIn f (waitingIn b)) (admits .2 .entry) ∙ numbered-alike f (waitingIn b) (r .participants) (b .codes) _ _
+
     pub does-refuse : fillableIn f (waitingIn b) e ≡ false
         → Line-does m′ k′ l (record { answer = Refused 15 0; phase = x; book = b })
     unfolding carried
@@ -77,24 +82,24 @@ module _ (says : Line) (ms : List Ticket) (r : Rules) (x : Phase) (m k : List �
         let a = admits .2 in
         rw (admits .0, admits .1, a .said)
         (does-call r x m k b l _ m k l _ ready lent
-        (refuse-whole r x m k b ready (a .participant) (a .ticket) f l (omega (arith, lent)) none (a .entry) short))
+        (refuse-whole r x m k b ready (a .participant) (a .ticket) f l (omega (arith, lent)) none (sym of-claim ∙ short)))
 
     module _ (whole : fillableIn f (waitingIn b) e ≡ true) where
       pub can-enter : Enterable w b e f m′ k′ l
       can-enter =
           let a = admits .2 in
           rw (admits .0, admits .1, a .listing)
-          (enterable r x m k b ready (a .participant) (a .ticket) f l (omega (arith, lent)) none (a .entry) whole (a .matched))
+          (enterable r x m k b ready (a .participant) (a .ticket) f l (omega (arith, lent)) none (sym of-claim ∙ whole) (a .entry) (a .matched))
 
       pub does-enter : (m″ k″ l″ : List ℕ) (b′ : OrderBook) → Enters w b e f m′ k′ l m″ k″ l″ b′
           → Line-does m″ k″ l″
-          (record { answer = Done (b′ .codes) (b′ .filled) (b′ .left) (b′ .trades); phase = x; book = b′ })
+          (record { answer = Done (b′ .code) (b′ .filled) (b′ .left) (b′ .trades); phase = x; book = b′ })
       unfolding carried
       does-enter m″ k″ l″ b′ enters =
           let a = admits .2 in
           rw (a .said)
           (does-call r x m k b l _ m″ k″ l″ _ ready lent
-          (order-enters r x m k b ready (a .participant) (a .ticket) f l (omega (arith, lent)) none (a .entry) whole (a .matched) m″ k″ l″ b′
+          (order-enters r x m k b ready (a .participant) (a .ticket) f l (omega (arith, lent)) none (sym of-claim ∙ whole) (a .entry) (a .matched) m″ k″ l″ b′
           (rw (admits .0, admits .1, a .listing) at enters)))
 
   -- it is a cancellation by a known participant
@@ -142,7 +147,7 @@ module _ (says : Line) (ms : List Ticket) (r : Rules) (x : Phase) (m k : List �
 
     pub does-append : (m″ k″ : List ℕ) (b′ : OrderBook) → Appends w b o m′ k′ m″ k″ b′
         → Line-does m″ k″ l
-        (record { answer = Done (b′ .codes) (b′ .filled) (b′ .left) (b′ .trades); phase = x; book = b′ })
+        (record { answer = Done (b′ .code) (b′ .filled) (b′ .left) (b′ .trades); phase = x; book = b′ })
     does-append m″ k″ b′ appends = placed .does m″ k″ b′ (rw (waits .0, waits .1) at appends)
 
   -- it is another call

@@ -30,18 +30,18 @@ use Rattle.commands.specs.declared.Asked.the-variants as verdict
 use Rattle.commands.specs.Command.{Does, carried}
 
 -- this can be asked
-pub record Askable (r : Rules) (t : List Turnover) (codes : ℕ) (m k : List ℕ) : Type 0 where
+pub record Askable (r : Rules) (t : List Turnover) (codes m k : List ℕ) : Type 0 where
   pub known : Known r codes
   pub closing : closing.Askable r t codes
   pub movable : Movable r m k
 
 -- an order whose questions 4 to 14 are answered "yes" while nothing is collected, as it enters
-pub record Admits (says : Line) (r : Rules) (x : Phase) (t : List Turnover) (count codes : ℕ) (m k : List ℕ) (e : Order)
+pub record Admits (says : Line) (r : Rules) (x : Phase) (t : List Turnover) (count : ℕ) (codes m k : List ℕ) (e : Order)
     (l : Listing) (f : TimeInForce) : Type 0 where
   pub participant : ℕ
   pub ticket : Ticket
   pub said : says ≡ line.Call (call.Order participant ticket f)
-  pub entry : e ≡ entryWith codes participant ticket
+  pub entry : e ≡ entryWith (r .participants) codes participant ticket
   pub listing : l ≡ listing r (ticket .security)
   pub matched : isCollecting x ≡ false
   pub asked : EntryNo r x t count codes m k participant ticket (orderAccess f) f 0
@@ -53,16 +53,16 @@ pub record WaitsAs (says : Line) (r : Rules) (x : Phase) (m k : List ℕ) (o : O
   pub able : Appendable w b o m k
   pub does : (m′ k′ : List ℕ) (b′ : OrderBook) → Appends w b o m k m′ k′ b′
       → Does (carried (dayOf r x m k b) says ms) r l m′ k′ l
-      (record { answer = Done (b′ .codes) (b′ .filled) (b′ .left) (b′ .trades); phase = x; book = b′ })
+      (record { answer = Done (b′ .code) (b′ .filled) (b′ .left) (b′ .trades); phase = x; book = b′ })
 
 -- so on every order book with this turnover, count and codes with which the day is sound
-abbrev pub Waits : Line → Rules → Phase → List Turnover → ℕ → ℕ → (m k : List ℕ) → Order → Listing → Type 0
+abbrev pub Waits : Line → Rules → Phase → List Turnover → ℕ → (codes m k : List ℕ) → Order → Listing → Type 0
 Waits says r x t count codes m k o w =
     (b : OrderBook) (l : List ℕ) (ms : List Ticket) → b .turnover ≡ t → b .count ≡ count → b .codes ≡ codes
     → Ready r x m k b → length l ≡ lentAtLeast → WaitsAs says r x m k o w b l ms
 
 -- by what comes of it: the answer of the line, whatever the order book and the lent list; or positions as they were
-abbrev pub Asks : Line → Rules → Phase → List Turnover → ℕ → ℕ → (m k m′ k′ : List ℕ) → Asked → Type 0
+abbrev pub Asks : Line → Rules → Phase → List Turnover → ℕ → (codes m k m′ k′ : List ℕ) → Asked → Type 0
 Asks says r x t count codes m k m′ k′ (verdict.Answered a) =
     (b : OrderBook) (l : List ℕ) (ms : List Ticket) → b .turnover ≡ t → b .count ≡ count → b .codes ≡ codes
     → Ready r x m k b → length l ≡ lentAtLeast

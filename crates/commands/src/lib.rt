@@ -102,7 +102,7 @@ fn order_asked<'a>(
     phase: Phase,
     turnovers: [Turnover; 16],
     count: usize,
-    codes: u64,
+    codes: [u64; 16],
     money: &'a [u64; 544],
     pieces: &'a [u64; 544],
     participant: u64,
@@ -134,7 +134,7 @@ fn order_asked<'a>(
         row,
         rate: rules.rate,
     };
-    let entry = entry_of(codes, participant, ticket);
+    let entry = entry_of(rules.participants, codes, participant, ticket);
     if is_collecting(phase) {
         return Asked::Waits(entry, listing);
     }
@@ -147,7 +147,7 @@ fn closing_asked<'a>(
     phase: Phase,
     turnovers: [Turnover; 16],
     count: usize,
-    codes: u64,
+    codes: [u64; 16],
     money: &'a [u64; 544],
     pieces: &'a [u64; 544],
     participant: u64,
@@ -180,7 +180,7 @@ fn closing_asked<'a>(
         row,
         rate: rules.rate,
     };
-    let o = closing_order(codes, participant, side, security, lots);
+    let o = closing_order(rules.participants, codes, participant, side, security, lots);
     Asked::Waits(o, listing)
 }
 
@@ -190,7 +190,7 @@ fn without_orders(
     phase: Phase,
     turnovers: [Turnover; 16],
     count: usize,
-    codes: u64,
+    codes: [u64; 16],
     money: &mut [u64; 544],
     pieces: &mut [u64; 544],
 ) -> Asked
@@ -278,13 +278,14 @@ pub fn commands(
         let reading = command_at(text, at);
         let says = reading.says;
         let turnovers = book.turnover;
+        let codes = book.codes;
         let verdict = without_orders(
             says,
             rules,
             phase,
             turnovers,
             book.count,
-            book.codes,
+            codes,
             money,
             pieces,
         );
@@ -296,7 +297,7 @@ pub fn commands(
             Asked::Enters(entry, listing, force) => {
                 if is_fillable(book, force, entry) {
                     book = enter(book, entry, force, listing, money, pieces, &mut trades);
-                    answer = Answer::Done(book.codes, book.filled, book.left, book.trades);
+                    answer = Answer::Done(book.code, book.filled, book.left, book.trades);
                 }
             }
             Asked::Cancels(participant, code) => {
@@ -314,7 +315,7 @@ pub fn commands(
             }
             Asked::Waits(o, listing) => {
                 book = append(book, o, listing, money, pieces);
-                answer = Answer::Done(book.codes, book.filled, book.left, book.trades);
+                answer = Answer::Done(book.code, book.filled, book.left, book.trades);
             }
             Asked::Other(call) => {
                 let members = reading.members;

@@ -13,6 +13,7 @@ use Rattle.market.specs.declared.Asset.{Asset}
 use Rattle.market.specs.declared.Asset.the-variants.{Money, Pieces}
 use Rattle.market.specs.Day.{Day, blockedAt, columnsOf, freeAt, noOrder, noTurnover, orderAt}
 use Rattle.market.specs.Day.{cell, positions, totalLimit}
+use Rattle.market.specs.Codes.{codesOf, given}
 use Rattle.market.specs.Needs.{needAt}
 use Rattle.market.specs.Sound.{needsAt, sound}
 use Rattle.market.specs.TradeList.{written}
@@ -27,10 +28,11 @@ use Rattle.market.proofs.Lists.{All, all-at, same-all}
 use Rattle.market.proofs.Totals.{zero-total}
 use Rattle.market.proofs.Known.{RulesOk}
 use Rattle.market.proofs.Matching.{prices-apart}
+use Rattle.market.proofs.Codes.{codes-none, numbered-empty}
 use Rattle.market.proofs.Opening.{accepted}
 use Rattle.invariant.specs.Standing.{Held}
 use Rattle.conservation.specs.Book.{Book, balances, emptyBook, noBalance}
-use Rattle.conservation.specs.Statement.{Agrees, Whole, WholeBy, allShown, asOrder, bookNeeds}
+use Rattle.conservation.specs.Statement.{Agrees, Whole, WholeBy, allShown, asOrder, bookNeeds, shown}
 use Rattle.conservation.specs.SoundKept.{SoundKept}
 use Rattle.conservation.proofs.Balanced.{Balanced}
 use Rattle.conservation.proofs.Good.{Good}
@@ -49,8 +51,8 @@ opened-good r ok = record {
     kinds = tt;
     room = omega arith;
     turnoverLength = refl;
-    codes = record { arrivals = omega arith; shared = λ p. omega arith };
-    limit = refl;
+    codes = numbered-empty (given (opened r)) (codesOf (opened r));
+    limit = codes-none (r .participants);
     turnovers = λ s h. rw (same-all maxSecurities s noTurnover)
         (record { top = omega arith; low = omega arith; high = omega arith });
   };
@@ -92,9 +94,10 @@ pub opening-sound : (r : Rules) → isDone ((opening r) .answer) ≡ true → so
 opening-sound r e = let a = accepted r e in rw (a .day) (good-sound emptyBook (opened r) (opened-good r (a .rules)))
 
 -- what a good day says to the reader
-shown-needs : (f : Order → ℕ) (w : List Order) → sumOf (λ o. f (asOrder o)) (allShown w) ≡ sumOf f w
-shown-needs f [] = refl
-shown-needs f (o ∷ w) = let r = shown-needs f w in omega arith
+shown-needs : (f : Order → ℕ) (w : List Order) → ((o : Order) → f (asOrder (shown o)) ≡ f o)
+    → sumOf (λ o. f (asOrder o)) (allShown w) ≡ sumOf f w
+shown-needs f [] h = refl
+shown-needs f (o ∷ w) h = let r = shown-needs f w h in omega (arith, h o)
 
 pub agrees : {r : Rules} (b : Book) (d : Day) → Good (Unit {0}) r b d → Agrees r b d
 agrees {r} b d g = record {
@@ -121,7 +124,8 @@ agrees {r} b d g = record {
     needs : (x : Asset) (j : ℕ) → bookNeeds x r b j ≡ needsAt x d j
     needs x j =
         unfold bookNeeds in
-        (rw (rules, g .agree .turnover, g .waiting) (shown-needs (needAt x (d .rules) (d .turnover) j) (d .waiting)))
+        (rw (rules, g .agree .turnover, g .waiting)
+        (shown-needs (needAt x (d .rules) (d .turnover) j) (d .waiting) (λ o. unfold needAt in refl)))
 
 -- every group filled its members whole or changed nothing
 pub step-whole : {U : Type 0} {r : Rules} (b : Book) (d : Day) (c : Call) (l : List ℕ) → Good U r b d
@@ -157,6 +161,7 @@ sound-kept d size e l c =
         table = ap (λ (r : Rules). length (r .table)) (sym (after .agree .rules)) ∙ size .table;
         money = (after .standing .backed .held Money) .positions;
         pieces = (after .standing .backed .held Pieces) .positions;
+        codes = after .standing .limit .places;
         turnover = after .standing .turnoverLength;
       };
       few = omega (arith, counts, few .most);

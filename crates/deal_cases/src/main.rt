@@ -1,6 +1,7 @@
 // Cases of T-06 that no script can say, run on the engine: records and waiting offers made by hand, each limit from both sides;
-// offers, second parts and new days after a million codes, beside 64 deals, and with the largest numbers.
+// offers, second parts and new days after 62,500 codes of a member, beside 64 deals, and with the largest numbers.
 use case_states::after;
+use case_states::aged;
 use case_states::asked;
 use case_states::asked_closing;
 use case_states::asked_collecting;
@@ -8,16 +9,23 @@ use case_states::asked_kind;
 use case_states::bond;
 use case_states::bought;
 use case_states::buy;
+use case_states::code_and_arrival;
+use case_states::counts;
 use case_states::day;
+use case_states::entered;
 use case_states::funded;
 use case_states::in_phase;
 use case_states::money;
 use case_states::numbers;
+use case_states::order;
 use case_states::position;
+use case_states::sell;
 use case_states::sell_order;
 use case_states::table;
 use case_states::traded;
 use case_states::waiting;
+use case_states::with_codes;
+use case_states::with_counts_past;
 use case_states::with_deals;
 use case_states::with_money;
 use case_states::with_phase;
@@ -77,12 +85,12 @@ fn offers_in_other_phases() {
 }
 
 fn asked_buy_offer(label: &[u8], blocked: u64) {
-    let mut s = with_money(day(), 0, 0, blocked);
-    s.codes = 4;
+    let mut s = with_codes(with_money(day(), 0, 0, blocked), 0, 4);
     s.orders[0] = Order {
         code: 3,
         participant: 0,
         side: Side::Buy,
+        arrival: 3,
         security: 0,
         lots: 10,
         kind: Kind::Offer(300, 7, 95),
@@ -304,10 +312,9 @@ fn unsound_records() {
     after(b"start of closing: 1", start_closing(s));
 }
 
-// 128 kept orders of one lot.
+// 128 kept orders of one lot, all of participant 1. His codes are set apart, so that the loop's proof stays small.
 fn full_book() -> State {
     let mut s = with_pieces(funded(), 16, 0, 1280);
-    s.codes = 128;
     s.count = 128;
     let mut i: usize = 0;
     while i < 128 {
@@ -315,6 +322,11 @@ fn full_book() -> State {
         i += 1;
     }
     s
+}
+
+// The same, his codes given.
+fn full_day() -> State {
+    with_codes(full_book(), 1, 128)
 }
 
 // An order isn't asked for room among the deals.
@@ -325,7 +337,17 @@ fn orders_beside_deals() {
     );
     bought(
         b"128 orders beside 64 deals: 12",
-        with_deals(full_book(), 20000, deal(), 64),
+        with_deals(full_day(), 20000, deal(), 64),
+    );
+}
+
+// Room is asked before codes, of a kept order only.
+fn orders_without_codes() {
+    let s = with_codes(full_day(), 0, 62500);
+    bought(b"128 orders and 62500 codes: 12", s);
+    after(
+        b"an immediate order: 13",
+        entered(s, 0, buy(0, 95, 1), TimeInForce::ImmediateOrCancel),
     );
 }
 
@@ -351,11 +373,35 @@ fn unsound_dealings() {
 }
 
 fn offer_codes() {
-    let mut s = funded();
-    s.codes = 1000000;
-    offered(b"1000000 codes given: 13", s);
-    s.codes = 999999;
-    offered(b"the last code", s);
+    let s = with_codes(funded(), 0, 62500);
+    offered(b"62500 codes given: 13", s);
+    after(b"for more than his money: 13", offer(s, 95, 10000, 300, 7));
+    let s = met(b"another participant offers", s, 1, Side::Sell, 10);
+    code_and_arrival(b"his code and arrival", s);
+    offered(b"the last code", with_codes(funded(), 0, 62499));
+    offered(b"62501 codes: 1", with_codes(funded(), 0, 62501));
+}
+
+fn offer_beside_counts_past() {
+    let s = with_counts_past(funded(), 18446744073709551615);
+    let s = after(
+        b"an offer beside counts past the participants",
+        offer(s, 95, 10, 300, 7),
+    );
+    code_and_arrival(b"its code and arrival", s);
+    counts(b"codes given", s);
+}
+
+// Participant 1's older offer has code 4, his own code 2: all five lots of one are met, then all of the other.
+fn older_offer(label: &[u8], side: Side, counter: Side) {
+    let s = aged(4, side, Kind::Offer(300, 7, 95), Phase::Open);
+    let s = met(label, s, 0, counter, 5);
+    met(b"then the younger one", s, 0, counter, 5);
+}
+
+fn older_offers() {
+    older_offer(b"the older offer to sell", Side::Sell, Side::Buy);
+    older_offer(b"the older offer to buy", Side::Buy, Side::Sell);
 }
 
 // The largest number is a multiple of the step.
@@ -373,20 +419,19 @@ fn offers_beside_deals() {
         b"an offer beside 63 deals",
         with_deals(funded(), 20000, deal(), 63),
     );
-    let mut s = with_deals(funded(), 20000, deal(), 64);
+    let s = with_deals(funded(), 20000, deal(), 64);
     offered(b"beside 64: 26", s);
-    s.codes = 1000000;
-    offered(b"1000000 codes, too: 26", s);
-    let mut s = with_deals(full_book(), 20000, deal(), 64);
-    s.codes = 1000000;
+    offered(b"62500 codes, too: 26", with_codes(s, 0, 62500));
+    let s = with_deals(full_day(), 20000, deal(), 64);
+    let s = with_codes(s, 0, 62500);
     offered(b"128 orders, too: 12", s);
     after(b"a rate of 5001, too: 25", offer(s, 95, 10, 5001, 7));
 }
 
 // An offer lent a list of sevens: its first part and the 8 numbers behind it.
-fn met(label: &[u8], s: State, participant: u64, side: Side) -> State {
+fn met(label: &[u8], s: State, participant: u64, side: Side, lots: u64) -> State {
     let mut trades = [7u64; 1088];
-    let o = enter_offer(s, participant, side, 0, 95, 10, 300, 7, &mut trades);
+    let o = enter_offer(s, participant, side, 0, 95, lots, 300, 7, &mut trades);
     let s = after(label, o);
     numbers(label, &trades, 0);
     numbers(b"the next 8 numbers", &trades, 8);
@@ -400,13 +445,13 @@ fn date_and_deals(s: State) {
 
 fn first_part() {
     let s = with_deals(funded(), 20000, deal(), 63);
-    let s = met(b"an offer to sell waits", s, 1, Side::Sell);
-    let s = met(b"an offer to buy meets it", s, 0, Side::Buy);
+    let s = met(b"an offer to sell waits", s, 1, Side::Sell, 10);
+    let s = met(b"an offer to buy meets it", s, 0, Side::Buy, 10);
     money(b"free and blocked money of the buyer", s, 0);
     let t = s.turnover[0];
     position(b"Q and T stay", t.pieces, t.value);
     date_and_deals(s);
-    met(b"that was the 64th deal: 26", s, 0, Side::Buy);
+    met(b"that was the 64th deal: 26", s, 0, Side::Buy, 10);
 }
 
 // So many deals that are due; the first buyer has the pieces of one, the first seller this money.
@@ -462,21 +507,30 @@ fn second_sums() {
 fn later_day() {
     let mut s = with_phase(with_deals(funded(), 20000, deal(), 64), Phase::Closed);
     after(b"the largest date: 24", new_day(s, 18446744073709551615));
-    s.codes = 1000000;
+    s.codes[0] = 62500;
+    s.codes[1] = 62500;
     s.turnover[0] = Turnover {
-        pieces: 10000000000000,
-        value: 10000000000000,
+        pieces: 1250000000000,
+        value: 1250000000000,
     };
-    let s = after(b"a new day after 1000000 codes", new_day(s, 20001));
+    let s = after(b"a new day after all codes", new_day(s, 20001));
     date_and_deals(s);
     let t = s.turnover[0];
     position(b"Q and T", t.pieces, t.value);
-    bought(b"the first code anew", s);
+    codes_anew(s);
+}
+
+fn codes_anew(s: State) {
+    counts(b"codes given", s);
+    let s = after(b"the first code anew", order(s, 0, buy(0, 5, 1)));
+    code_and_arrival(b"it and its arrival", s);
+    after(b"another's first code", order(s, 1, sell(0, 95, 1)));
 }
 
 fn later_day_unread() {
     let s = with_phase(with_unread(), Phase::Closed);
     let s = after(b"a new day with anything past the counts", new_day(s, 1));
+    counts(b"codes given", s);
     asked(b"sound after it", s);
 }
 
@@ -503,11 +557,14 @@ fn deals() {
     deals_in_phases();
     unsound_records();
     orders_beside_deals();
+    orders_without_codes();
 }
 
 fn dealings() {
     unsound_dealings();
     offer_codes();
+    offer_beside_counts_past();
+    older_offers();
     largest_offers();
     offers_beside_deals();
     first_part();

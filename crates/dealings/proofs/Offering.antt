@@ -37,7 +37,9 @@ use Rattle.invariant.specs.Standing.{Placeable, Standing}
 use Rattle.invariant.proofs.Offers.{AtMostOne, FirstOk, offer-placeable, offered-trades}
 use Rattle.waiting.specs.Appending.{Admits}
 use Rattle.orders.specs.Entering.{Known}
+use Rattle.codes.specs.Numbers.{Numberable}
 use Rattle.orders.proofs.Answered as orders
+use Rattle.orders.proofs.Asking.{counted}
 use Rattle.offers.specs.Offering.{Offerable, OfferedAs, Offers}
 use Rattle.dealings.specs.Asking.{Accepted, Narrow, offerNo, offerWith}
 use Rattle.dealings.specs.Recording.{Adds, Limited, Readable, dealsIn}
@@ -86,7 +88,7 @@ module _ {r : Rules} {x : Phase} {m k : List ℕ} {b : OrderBook} {z : Records} 
   l = ledgerOf r x m k b z
 
   abbrev e : Order
-  e = offerWith (b .codes) p ticket rate term
+  e = offerWith (r .participants) (b .codes) p ticket rate term
 
   g : Standing d
   g = standing r x m k b z (a .ready)
@@ -98,11 +100,15 @@ module _ {r : Rules} {x : Phase} {m k : List ℕ} {b : OrderBook} {z : Records} 
   unfolding offerQuestions
   yeses = all-yes asked tt (a .asked)
 
-  pub narrows : Narrow (b .codes) rate term
+  pub numberable : Numberable (r .participants) (b .codes) p
+  unfolding offerQuestions
+  numberable = counted (known (a .ready)) (ltb-true p (r .participants) (yes 4 asked yeses))
+
+  pub narrows : Narrow rate term
   unfolding offerQuestions
   narrows =
-      narrow (row r (ticket .security)) (b .codes) (ticket .price) (ticket .lots) (z .date) rate term ((known (a .ready)) .codes)
-      (yes 24 asked yeses) (yes 25 asked yeses)
+      narrow (row r (ticket .security)) (ticket .price) (ticket .lots) (z .date) rate term (yes 24 asked yeses)
+      (yes 25 asked yeses)
 
   security : ticket .security < r .securities
   unfolding offerQuestions
@@ -170,7 +176,7 @@ module _ {r : Rules} {x : Phase} {m k : List ℕ} {b : OrderBook} {z : Records} 
     pub offer-done : {z′ : Records} → Adds z (dealsIn (b′ .trades) (z .date) rate term v′) z′
         → CarriesAct r x m k b z v (offer p ticket rate term) m′ k′ v′
         (record {
-          carried = record { answer = Done (b′ .codes) (b′ .filled) (b′ .left) (b′ .trades); phase = x; book = b′ };
+          carried = record { answer = Done (b′ .code) (b′ .filled) (b′ .left) (b′ .trades); phase = x; book = b′ };
           records = z′;
         })
     unfolding actEffect

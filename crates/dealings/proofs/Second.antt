@@ -21,6 +21,7 @@ use Rattle.market.specs.Tests.{_and_, within}
 use Rattle.market.specs.declared.Asset.{Asset}
 use Rattle.market.specs.declared.Asset.the-variants.{Money, Pieces}
 use Rattle.market.specs.Day.{Day, Position, cell, columnsOf, currencyOf, noTurnover, position, positions, row, totalLimit}
+use Rattle.market.specs.Codes.{noCodes}
 use Rattle.market.specs.View.{dayOf}
 use Rattle.market.specs.Phases.{admits}
 use Rattle.market.specs.Needs.{piecesOf}
@@ -230,11 +231,12 @@ module _ (r : Rules) (x : Phase) (m k : List ℕ) (b : OrderBook) (z : Records) 
                 book = record {
                   orders = b .orders;
                   count = b .count;
-                  codes = 0;
+                  codes = noCodes;
                   turnover = replicate maxSecurities noTurnover;
                   filled = b .filled;
                   left = b .left;
                   trades = b .trades;
+                  code = b .code;
                 };
               };
               records = record { date = date; count = z .count; deals = z .deals };

@@ -9,6 +9,7 @@ use amounts::price_sound;
 use amounts::sum_for;
 use amounts::within;
 use calendar::second_sum;
+use codes::numbered;
 use deals::loan_sound;
 use deals::term_sound;
 use market::Access;
@@ -21,8 +22,8 @@ use market::Kind;
 use market::LAST_DAY;
 use market::LENT_AT_LEAST;
 use market::Listing;
-use market::MAX_CODES;
 use market::MAX_DEALS;
+use market::MAX_OWN_CODES;
 use market::MAX_WAITING;
 use market::Order;
 use market::OrderBook;
@@ -51,8 +52,9 @@ ghost use Rattle.market.specs.Questions.{firstNo};
 ghost use Rattle.market.specs.Acts.{offer as offerAct};
 ghost use Rattle.market.specs.LedgerParts.{CarriesAct, ReadyLedger, actOf};
 ghost use Rattle.market.proofs.Known.{RulesOk};
+ghost use Rattle.codes.specs.Numbers.{Numberable};
 ghost use Rattle.orders.specs.Entering.{Askable, Known};
-ghost use Rattle.dealings.specs.Asking.{Accepted, Narrow, OfferNo, loanQuestions, offerWith};
+ghost use Rattle.dealings.specs.Asking.{Accepted, Narrow, OfferNo, loanQuestions, offerClaim, offerWith};
 ghost use Rattle.dealings.specs.Recording.{Adds, Readable, dealIn, dealsIn};
 ghost use Rattle.dealings.specs.Second.{Ends, Handable, NewDays, Payable, Pays, SecondParts, paidMoney, paidPieces, partOf, partQuestions};
 
@@ -77,21 +79,41 @@ fn declined(book: OrderBook, records: Records, phase: Phase, number: u64) -> Dea
     }
 }
 
-// The offer as it enters, under the next code.
-fn offer_of(codes: u64, participant: u64, ticket: Ticket, rate: u64, term: u64) -> Order
-    requires { ⌜ Narrow codes rate term ⌝ }
-    ensures { λ r. ⌜ r ≡ offerWith codes participant ticket rate term ⌝ }
+// The offer before it is numbered, which suffices for question 14: no need reads code or arrival.
+fn offer_claim(participant: u64, ticket: Ticket, rate: u64, term: u64) -> Order
+    requires { ⌜ Narrow rate term ⌝ }
+    ensures { λ r. ⌜ r ≡ offerClaim participant ticket rate term ⌝ }
 {
     let side = ticket.side;
     let kind = Kind::Offer(rate as u16, term as u16, ticket.price);
     Order {
-        code: codes + 1,
+        code: 0,
         participant,
         side,
+        arrival: 0,
         security: ticket.security,
         lots: ticket.lots,
         kind,
     }
+}
+
+// The offer as it enters, under the next numbers.
+fn offer_of(
+    participants: u64,
+    codes: [u64; 16],
+    participant: u64,
+    ticket: Ticket,
+    rate: u64,
+    term: u64,
+) -> Order
+    requires { ⌜ Numberable participants codes participant × Narrow rate term ⌝ }
+    ensures { λ r. ⌜ r ≡ offerWith participants codes participant ticket rate term ⌝ }
+{
+    numbered(
+        participants,
+        codes,
+        offer_claim(participant, ticket, rate, term),
+    )
 }
 
 // The first "no" of questions 8, 24, 25, 12, 26, 13 and 14, in this order; 0 where there is none.
@@ -103,14 +125,14 @@ fn later_no<'a>(
     date: u64,
     deals: usize,
     count: usize,
-    codes: u64,
+    own: u64,
     participant: u64,
     ticket: Ticket,
     rate: u64,
     term: u64,
 ) -> u64
-    requires { ⌜ Askable listing codes participant ticket ⌝ }
-    ensures { λ r. ⌜ r ≡ firstNo (loanQuestions listing turnover date deals count codes participant ticket rate term (now (money .entry)) (now (pieces .entry))) ⌝ }
+    requires { ⌜ Askable listing participant ticket ⌝ }
+    ensures { λ r. ⌜ r ≡ firstNo (loanQuestions listing turnover date deals count own participant ticket rate term (now (money .entry)) (now (pieces .entry))) ⌝ }
 {
     if !price_sound(listing.row, ticket.price) {
         return 8;
@@ -127,11 +149,11 @@ fn later_no<'a>(
     if MAX_DEALS as usize <= deals {
         return 26;
     }
-    if MAX_CODES <= codes {
+    if MAX_OWN_CODES <= own {
         return 13;
     }
-    let entry = offer_of(codes, participant, ticket, rate, term);
-    if !covers(money, pieces, listing, turnover, entry) {
+    let claim = offer_claim(participant, ticket, rate, term);
+    if !covers(money, pieces, listing, turnover, claim) {
         return 14;
     }
     0
@@ -143,7 +165,7 @@ fn offer_no<'a>(
     phase: Phase,
     turnovers: [Turnover; 16],
     count: usize,
-    codes: u64,
+    codes: [u64; 16],
     date: u64,
     deals: usize,
     money: &'a [u64; 544],
@@ -171,6 +193,7 @@ fn offer_no<'a>(
     let table = rules.table;
     let row = table[security];
     let turnover = turnovers[security];
+    let own = codes[participant as usize];
     let listing = Listing {
         row,
         rate: rules.rate,
@@ -183,7 +206,7 @@ fn offer_no<'a>(
         date,
         deals,
         count,
-        codes,
+        own,
         participant,
         ticket,
         rate,
@@ -249,7 +272,8 @@ fn entered(
     requires { ⌜ Accepted rules phase (now money) (now pieces) b records participant ticket rate term (now trades) ⌝ }
     ensures { λ r. ⌜ CarriesAct rules phase (now (money .entry)) (now (pieces .entry)) b records (now (trades .entry)) (offerAct participant ticket rate term) (now (money .exit)) (now (pieces .exit)) (now (trades .exit)) r ⌝ }
 {
-    let entry = offer_of(b.codes, participant, ticket, rate, term);
+    let codes = b.codes;
+    let entry = offer_of(rules.participants, codes, participant, ticket, rate, term);
     let table = rules.table;
     let row = table[ticket.security as usize];
     let listing = Listing {
@@ -285,12 +309,13 @@ fn offer(
         return declined(b, records, phase, 2);
     }
     let turnovers = b.turnover;
+    let codes = b.codes;
     let number = offer_no(
         rules,
         phase,
         turnovers,
         b.count,
-        b.codes,
+        codes,
         records.date,
         records.count,
         &*money,
@@ -446,7 +471,7 @@ fn new_day(b: OrderBook, records: Records, phase: Phase, date: u64) -> Dealt
         return declined(b, records, phase, 24);
     }
     let mut book = b;
-    book.codes = 0;
+    book.codes = [0; 16];
     book.turnover = [Turnover {
         pieces: 0,
         value: 0,

@@ -1,5 +1,5 @@
 -- A day is sound where these facts hold, and they hold of a sound day.
-use Prim.Native.Nat.{ℕ, _≤_}
+use Prim.Native.Nat.{ℕ, _≤_, _<_}
 use native.Mathlib.Omega.{arith}
 use mathlib.Core.Path.{_≡_}
 use mathlib.Core.List.{List}
@@ -14,10 +14,10 @@ use Rattle.market.specs.Tests.{_=?_, _≤?_, allBelow}
 use Rattle.market.specs.declared.Rules.{Rules}
 use Rattle.market.specs.declared.Asset.{Asset}
 use Rattle.market.specs.declared.Asset.the-variants.{Money, Pieces}
-use Rattle.market.specs.Day.{Day, columnsOf, cell, position, positions}
+use Rattle.market.specs.Day.{Day, columnsOf, cell, orderAt, position, positions}
 use Rattle.market.specs.View.{Sized, dayOf}
 use Rattle.market.specs.Day.{totalLimit, turnoverAt}
-use Rattle.market.specs.Codes.{given}
+use Rattle.market.specs.Codes.{arrivalOf, given}
 use Rattle.market.specs.Positions.{totalAt}
 use Rattle.market.specs.Sound.{blockedSound, needsAt, orderSound, sound, totalsSound, turnoverSound}
 use Rattle.market.specs.Parts.{Ready}
@@ -25,7 +25,7 @@ use Rattle.market.proofs.Logic.{and-true, below-all, below-intro, both, within-
 use Rattle.market.proofs.Lists.{all-and, all-test, test-all}
 use Rattle.market.proofs.Known.{OrderOk, RulesOk, rules-ok}
 use Rattle.market.proofs.Turnovers.{turnover-ok, turnover-sound}
-use Rattle.market.proofs.Codes.{numbered-sound, sound-numbered}
+use Rattle.market.proofs.Codes.{numbered-sound, place-arrival, sound-numbered}
 use Rattle.invariant.specs.Standing.{Held, KindOk, Standing}
 
 module _ (d : Day) (g : Standing d) where
@@ -113,10 +113,11 @@ sound-standing d size e =
     let e7 = and-true (e6 .1) in
     let e8 = and-true (e7 .1) in
     let ok = rules-ok r (e1 .0) in
-    let codes = sound-numbered d (e2 .0) in
+    let orders = test-all (OrderOk r) (orderSound d) (d .waiting) (λ o k. (order-facts d o k) .0) (e4 .0) in
+    let codes = sound-numbered d (size .codes) (e2 .0) orders in
     record {
       backed = record { rulesOk = ok; held = held-each ok (e5 .0) (e6 .0) (e7 .0) (e8 .0) };
-      orders = test-all (OrderOk r) (orderSound d) (d .waiting) (λ o k. (order-facts d o k) .0) (e4 .0);
+      orders = orders;
       codes = codes .1;
       kinds = test-all (KindOk d) (orderSound d) (d .waiting) (λ o k. (order-facts d o k) .1) (e4 .0);
       limit = codes .0;
@@ -134,6 +135,11 @@ sound-standing d size e =
         held-own Money (d .rules) (d .money) _ ok (omega (arith, ok .currencies)) (size .money) bm tm
     held-each ok bm bp tm tp Pieces =
         held-own Pieces (d .rules) (d .pieces) _ ok (ok .securities) (size .pieces) bp tp
+
+-- "A shared arrival number .. orders the waiting list" (T-07)
+pub by-arrival : (d : Day) → Sized d → sound d ≡ true → (i j : ℕ) → i < j → j < length (d .waiting)
+    → arrivalOf (orderAt (d .waiting) i) < arrivalOf (orderAt (d .waiting) j)
+by-arrival d size e i j = place-arrival 0 (given d) (d .waiting) i j ((sound-standing d size e) .codes .arrivals)
 
 pub ready-standing : {r : Rules} {x : Phase} {m k : List ℕ} {b : OrderBook} → Ready r x m k b → Standing (dayOf r x m k b)
 ready-standing {r} {x} {m} {k} {b} g = sound-standing (dayOf r x m k b) (g .sized) (g .sound)

@@ -148,6 +148,7 @@ act-kept l size e v a =
         table = ap (λ (r : Rules). length (r .table)) (sym (after .good .agree .rules)) ∙ size .table;
         money = (standing .backed .held Money) .positions;
         pieces = (standing .backed .held Pieces) .positions;
+        codes = standing .limit .places;
         turnover = standing .turnoverLength;
       };
       rules = sym (after .good .agree .rules);

@@ -53,7 +53,7 @@ piecesOf j p = balance (j .book .pieces) (cell p 0)
 -- the cases, a field each
 pub record JournalEdge : Type 0 where
   -- "an offer waits like a kept order", under its own code
-  pub waits : (booked offerActs) .book .waiting ≡ offerWaits 1 3 (sells 10 365) 50 1 ∷ []
+  pub waits : (booked offerActs) .book .waiting ≡ offerWaits 1 2 (sells 10 365) 50 1 ∷ []
   -- the first part: 36,500 and a fee of 365 go out, after 100 and 1; the deal comes from offer and trade
   pub paid : moneyOf (booked firstActs) 0 ≡ record { into = 40101; out = 36966 }
   pub opened : (booked firstActs) .deals ≡ theDeal ∷ []

@@ -18,7 +18,7 @@ use Rattle.market.specs.declared.Phase.{Phase}
 use Rattle.market.specs.declared.Phase.the-variants.{Open}
 use Rattle.market.specs.declared.Rules.{Rules}
 use Rattle.market.specs.declared.TimeInForce.the-variants.{FillOrKill}
-use Rattle.market.specs.Limits.{lentAtLeast, maxCodes, maxLots, maxMembers, maxSecurities, maxWaiting, minMembers}
+use Rattle.market.specs.Limits.{lentAtLeast, maxLots, maxMembers, maxSecurities, maxWaiting, minMembers}
 use Rattle.market.specs.Limits.{numbersPerTrade}
 use Rattle.market.specs.Day.{Day}
 use Rattle.market.specs.Parts.{listing}
@@ -29,14 +29,16 @@ use Rattle.market.specs.Calls.{entryOf, linked}
 use Rattle.market.specs.Entry.{entered}
 use Rattle.market.specs.Linked.{Group, members, passed, stopped}
 use Rattle.market.specs.Parts.{Carries}
-use Rattle.market.proofs.Logic.{within-high}
+use Rattle.market.proofs.Logic.{within-high, within-low}
 use Rattle.market.proofs.View.{first-length}
 use Rattle.invariant.specs.Standing.{Standing}
 use Rattle.invariant.proofs.Sound.{ready-standing}
 use Rattle.invariant.proofs.Whole.{whole-few, whole-standing}
 use Rattle.matching.specs.Filling.{openDay}
+use Rattle.codes.specs.Numbers.{Numberable}
 use Rattle.orders.specs.Entering.{Accepts, Enterable, EntersAs, entryWith, memberNo}
-use Rattle.orders.proofs.Answered.{accepts, codes-given, few-lots, in-table, member-opens, same-day}
+use Rattle.orders.proofs.Asking.{counted}
+use Rattle.orders.proofs.Answered.{accepts, few-lots, in-table, member-opens, owned, rules-known, same-day}
 use Rattle.linked.specs.Group.{Groupable}
 use Rattle.linked.proofs.Calling.{group-carries}
 use Rattle.linked.proofs.Lent.{lentFrom, put-back, returned, returned-written, written-length}
@@ -85,6 +87,7 @@ pub record Turn (s : From) (m k l : List ℕ) (b : OrderBook) (filled made i : �
   pub number : made ≡ length trades
   pub space : made + b .count ≤ s .book .count + i
   pub lots : filled ≤ maxLots * i
+  pub owner : 0 < i → s .owner < s .rules .participants
   pub list : l ≡ written trades (s .list)
   pub runs : whole s ≡ before filled trades (members (i + 1) (dayAt s m k b) (s .owner) (drop i (taken s)))
 
@@ -101,8 +104,8 @@ module _ (s : From) (able : GroupableFrom s) where
   few-before : s .book .count ≤ maxWaiting
   few-before = (few-lots (s .rules) (s .phase) (s .money) (s .pieces) (s .book) standing-before) .room
 
-  pub code-before : s .book .codes ≤ maxCodes
-  code-before = codes-given (s .rules) (s .phase) (s .money) (s .pieces) (s .book) standing-before
+  some-members : 0 < s .count
+  some-members = omega (arith, within-low minMembers maxMembers (s .count) (able .few))
 
   pub few-members : s .count ≤ maxMembers
   few-members = within-high minMembers maxMembers (s .count) (able .few)
@@ -117,6 +120,7 @@ module _ (s : From) (able : GroupableFrom s) where
     number = refl;
     space = omega arith;
     lots = omega arith;
+    owner = λ h. absurd (omega arith);
     list = refl;
     runs = before-none _;
   }
@@ -143,9 +147,6 @@ module _ {s : From} {m k l : List ℕ} {b : OrderBook} {filled made i : ℕ} (t 
       let within : i < length (taken s) =
       simp (length-take-le (s .count) (s .members) (omega (arith, t .listed, few-members s (t .able)))) h in
       rw (add-one, drop-cons (taken s) i z, getD-take (s .count) (s .members) i z)
-
-  pub codes-fit : b .codes ≤ maxCodes
-  codes-fit = codes-given (s .rules) (s .phase) m k b (t .stays)
 
   -- a turn of member q, which is asked number n
   module _ (z : Ticket) (h : i < s .count) where
@@ -177,8 +178,11 @@ module _ {s : From} {m k l : List ℕ} {b : OrderBook} {filled made i : ℕ} (t 
         pub known : q .security < maxSecurities
         known = in-table (s .rules) (s .phase) m k b (t .stays) (s .owner) q Member FillOrKill asked
 
+        pub numbers : Numberable (s .rules .participants) (b .codes) (s .owner)
+        numbers = owned (s .rules) (s .phase) m k b (t .stays) (s .owner) q Member FillOrKill asked
+
         abbrev e : Order
-        e = entryWith (b .codes) (s .owner) q
+        e = entryWith (s .rules .participants) (b .codes) (s .owner) q
 
         opens : s .phase ≡ Open
         opens = member-opens (s .rules) (s .phase) m k b (t .stays) (s .owner) q asked
@@ -236,7 +240,7 @@ module _ {s : From} {m k l : List ℕ} {b : OrderBook} {filled made i : ℕ} (t 
                 (done .list)
 
             pub tells-done : Tells s l filled made i m1 k1 (returned l at part) b1
-                (Done (b1 .codes) (b1 .filled) (b1 .left) (b1 .trades))
+                (Done (b1 .code) (b1 .filled) (b1 .left) (b1 .trades))
             tells-done = record {
               able = t .able;
               listed = t .listed;
@@ -246,6 +250,7 @@ module _ {s : From} {m k l : List ℕ} {b : OrderBook} {filled made i : ℕ} (t 
               number = omega (arith, t .number, made-is, length-append (t .trades) (result .trades));
               space = omega (arith, t .space, made-is, few);
               lots = omega (arith, t .lots, lots-is, member-few d (s .owner) q asked);
+              owner = λ x. numbers .participant;
               list = list-after;
               runs =
                   runs-here
@@ -266,10 +271,16 @@ module _ {s : From} {m k l : List ℕ} {b : OrderBook} {filled made i : ℕ} (t 
       (rw (stop .1)
       (put-back (s .list) l kept (t .trades) at (omega (arith, t .number)) (omega (arith, turn-sums .1)) (t .list) saved))
 
-  pub turns-end : s .count ≤ i
-      → CarriesFrom s m k l (record { answer = Done (s .book .codes + 1) filled 0 made; phase = s .phase; book = b })
+  -- there are members, so that the participant is known
+  pub turns-owner : s .count ≤ i → Numberable (s .rules .participants) (s .book .codes) (s .owner)
+  turns-owner h =
+      counted (rules-known (s .rules) (s .phase) (s .money) (s .pieces) (s .book) (standing-before s (t .able)))
+      (t .owner (omega (arith, some-members s (t .able))))
+
+  pub turns-end : s .count ≤ i → (code : ℕ) → code ≡ getD (s .book .codes) (s .owner) 0 + 1
+      → CarriesFrom s m k l (record { answer = Done code filled 0 made; phase = s .phase; book = b })
   unfolding members
-  turns-end h =
+  turns-end h code first =
       let none : drop i (taken s) ≡ [] =
       drop-of-length-le (taken s) {i = i}
       (simp (length-take-le (s .count) (s .members) (omega (arith, t .listed, few-members s (t .able)))) (omega arith)) in
@@ -279,4 +290,4 @@ module _ {s : From} {m k l : List ℕ} {b : OrderBook} {filled made i : ℕ} (t 
       ∙ rw (add-zero filled, append-nil (t .trades)) in
       group-carries (s .rules) (s .phase) (s .money) (s .pieces) (s .book) (s .list) (s .owner) (s .count) (s .members)
       (t .able) (passed (dayAt s m k b) filled (t .trades)) all-is m k l
-      (record { answer = Done (s .book .codes + 1) filled 0 made; phase = s .phase; book = b }) (rw (t .number)) refl (t .list)
+      (record { answer = Done code filled 0 made; phase = s .phase; book = b }) (rw (first, t .number)) refl (t .list)

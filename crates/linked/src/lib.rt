@@ -1,6 +1,7 @@
 // The linked group: orders of kind A of one participant, each on what its predecessor left. All of them, or none. Order
 // book, positions and the first numbers of the trade list are saved once, and put back where a member is refused.
 use amounts::within;
+use codes::next_code;
 use market::Access;
 use market::Answer;
 use market::Carried;
@@ -15,6 +16,7 @@ use market::Ticket;
 use market::TimeInForce;
 use market::declined;
 use matching::NUMBERS_PER_TRADE;
+use orders::claim_of;
 use orders::enter;
 use orders::entry_of;
 use orders::is_fillable;
@@ -71,13 +73,14 @@ fn first_no<'a>(
     ensures { λ r. ⌜ r ≡ memberNo (dayOf rules phase (now (money .entry)) (now (pieces .entry)) book) participant member ⌝ }
 {
     let turnovers = book.turnover;
+    let codes = book.codes;
     let force = TimeInForce::FillOrKill;
     let number = order_no(
         rules,
         phase,
         turnovers,
         book.count,
-        book.codes,
+        codes,
         money,
         pieces,
         participant,
@@ -88,8 +91,7 @@ fn first_no<'a>(
     if 0 < number {
         return number;
     }
-    let entry = entry_of(book.codes, participant, member);
-    if !is_fillable(book, force, entry) {
+    if !is_fillable(book, force, claim_of(participant, member)) {
         return 15;
     }
     0
@@ -130,7 +132,8 @@ fn members_in_turn(
                 row,
                 rate: rules.rate,
             };
-            let entry = entry_of(book.codes, participant, member);
+            let codes = book.codes;
+            let entry = entry_of(rules.participants, codes, participant, member);
             let force = TimeInForce::FillOrKill;
             book = enter(
                 book,
@@ -141,7 +144,7 @@ fn members_in_turn(
                 pieces,
                 &mut trades[at..],
             );
-            answer = Answer::Done(book.codes, book.filled, book.left, book.trades);
+            answer = Answer::Done(book.code, book.filled, book.left, book.trades);
         }
         let Answer::Done(_, lots, _, made_here) = answer else {
             *money = kept_money;
@@ -157,8 +160,11 @@ fn members_in_turn(
         made += made_here as usize;
         i += 1;
     }
+    // There are members, so that the participant is known.
+    let codes = b.codes;
+    let first = next_code(codes, participant);
     Carried {
-        answer: Answer::Done(b.codes + 1, filled, 0, made as u64),
+        answer: Answer::Done(first, filled, 0, made as u64),
         phase,
         book,
     }

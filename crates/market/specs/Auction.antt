@@ -54,6 +54,6 @@ ifTrades w s p = cond (0 <? volume w s p) p 0
 unfoldable pub auctionPrice : List Order → ℕ → ℕ
 auctionPrice w s = ifTrades w s (leading w s 0 (writtenPrices s w))
 
--- "All trades are at that price": who reaches it meets, "dearer buys and cheaper sells first, then lower codes (69.9)"
+-- "All trades are at that price": who reaches it meets, "dearer buys and cheaper sells first", then earlier arrivals (69.9, T-07)
 unfoldable pub auctionTerms : Day → ℕ → Terms
 auctionTerms d s = record { limit = kind.Kept (auctionPrice (d .waiting) s); price = auctionPrice (d .waiting) s }

@@ -42,7 +42,7 @@ pub record AuctionEdge : Type 0 where
   pub codeGiven : gives (after start (buy 0 100 1 Kept ∷ cancel 0 1 ∷ [])) startCollecting ≡ refusal 21 0
   pub begunTwice : gives tieByGap startCollecting ≡ refusal 6 0
   -- "kept orders only wait", crossed ones too; "Question 6 admits kept orders and this end while collecting"
-  pub waits : gives (book (sell 1 100 5 Kept ∷ [])) (buy 0 105 7 Kept) ≡ registered 2 0 7 0
+  pub waits : gives (book (sell 1 100 5 Kept ∷ [])) (buy 0 105 7 Kept) ≡ registered 1 0 7 0
   pub immediate : gives collecting (buy 0 105 7 ImmediateOrCancel) ≡ refusal 6 0
   pub wholeOrNothing : gives collecting (buy 0 105 7 FillOrKill) ≡ refusal 6 0
   pub group : gives collecting (linked 0 2 (member 95 1 ∷ member 95 1 ∷ [])) ≡ refusal 6 1
@@ -54,10 +54,10 @@ pub record AuctionEdge : Type 0 where
   pub most : gives mostLots endCollecting ≡ registered 0 8 0 2
   pub mostTrades :
       take 16 (listAfter mostLots endCollecting)
-      ≡ 1 ∷ 2 ∷ 0 ∷ 1 ∷ 0 ∷ 110 ∷ 5 ∷ 5500 ∷ 1 ∷ 3 ∷ 0 ∷ 1 ∷ 0 ∷ 110 ∷ 3 ∷ 3300 ∷ []
+      ≡ 1 ∷ 1 ∷ 0 ∷ 1 ∷ 0 ∷ 110 ∷ 5 ∷ 5500 ∷ 1 ∷ 2 ∷ 0 ∷ 1 ∷ 0 ∷ 110 ∷ 3 ∷ 3300 ∷ []
   -- "Ties go to the smaller gap between lots wanted and lots offered, then to the lower price"
-  pub gapTrade : take 8 (listAfter tieByGap endCollecting) ≡ 2 ∷ 1 ∷ 0 ∷ 1 ∷ 0 ∷ 105 ∷ 5 ∷ 5250 ∷ []
-  pub priceTrade : take 8 (listAfter tieByPrice endCollecting) ≡ 1 ∷ 2 ∷ 0 ∷ 1 ∷ 0 ∷ 100 ∷ 5 ∷ 5000 ∷ []
+  pub gapTrade : take 8 (listAfter tieByGap endCollecting) ≡ 1 ∷ 1 ∷ 0 ∷ 1 ∷ 0 ∷ 105 ∷ 5 ∷ 5250 ∷ []
+  pub priceTrade : take 8 (listAfter tieByPrice endCollecting) ≡ 1 ∷ 1 ∷ 0 ∷ 1 ∷ 0 ∷ 100 ∷ 5 ∷ 5000 ∷ []
   -- a buyer is freed by the fall in his own need: 5,250, of which 5,000 are paid
   pub freed :
       position ((after tieByPrice (endCollecting ∷ [])) .money) (cell 0 0) ≡ record { free = 25000; blocked = 0 }

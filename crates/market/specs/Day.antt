@@ -18,13 +18,13 @@ pub record Position : Type 0 where
   pub free : ℕ
   pub blocked : ℕ
 
--- positions stand two numbers each, free before blocked; waiting orders by rising code
+-- positions stand two numbers each, free before blocked; waiting orders by rising arrival; codes given, of each participant
 pub record Day : Type 0 where
   pub rules : Rules
   pub money : List ℕ
   pub pieces : List ℕ
   pub waiting : List Order
-  pub codes : ℕ
+  pub codes : List ℕ
   pub phase : Phase
   pub turnover : List Turnover
 
@@ -36,7 +36,7 @@ abbrev pub noTurnover : Turnover
 noTurnover = record { pieces = 0; value = 0 }
 
 abbrev pub noOrder : Order
-noOrder = record { code = 0; participant = 0; side = Buy; security = 0; lots = 0; kind = kind.Kept 0 }
+noOrder = record { code = 0; participant = 0; side = Buy; arrival = 0; security = 0; lots = 0; kind = kind.Kept 0 }
 
 -- the first for money, the second for pieces
 abbrev pub ifMoney : {A : Type 0} → Asset → A → A → A
@@ -101,6 +101,7 @@ withLots o n = record {
   code = o .code;
   participant = o .participant;
   side = o .side;
+  arrival = o .arrival;
   security = o .security;
   lots = n;
   kind = o .kind;
@@ -143,13 +144,13 @@ withWaiting d w = record {
   turnover = d .turnover;
 }
 
-abbrev pub withCodes : Day → ℕ → Day
-withCodes d n = record {
+abbrev pub withCodes : Day → List ℕ → Day
+withCodes d l = record {
   rules = d .rules;
   money = d .money;
   pieces = d .pieces;
   waiting = d .waiting;
-  codes = n;
+  codes = l;
   phase = d .phase;
   turnover = d .turnover;
 }

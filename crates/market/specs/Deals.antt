@@ -12,6 +12,7 @@ use Rattle.market.specs.Tests.{_<?_, _and_, _≤?_, known, removeAt, wit
 use Rattle.market.specs.declared.Asset.{Asset}
 use Rattle.market.specs.declared.Asset.the-variants.{Money, Pieces}
 use Rattle.market.specs.Day.{Day, currencyOf, noTurnover, row, withCodes, withPhase, withTurnover}
+use Rattle.market.specs.Codes.{noCodes}
 use Rattle.market.specs.Needs.{piecesOf, sumFor}
 use Rattle.market.specs.Calendar.{secondSum}
 use Rattle.market.specs.Positions.{draw, receive}
@@ -111,4 +112,4 @@ coversBack d x =
 
 -- "a later day, open, with Q, T and codes at zero"; once closed nothing waits
 unfoldable pub begins : Day → Day
-begins d = withTurnover (withPhase (withCodes d 0) Open) (replicate maxSecurities noTurnover)
+begins d = withTurnover (withPhase (withCodes d noCodes) Open) (replicate maxSecurities noTurnover)

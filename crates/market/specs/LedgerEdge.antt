@@ -4,7 +4,7 @@ use Prim.Native.Nat.{ℕ}
 use mathlib.Core.Path.{_≡_, refl}
 use mathlib.Core.List.{List, [], _∷_}
 use mathlib.Core.Bool.{true, false}
-use lib.ListN.{replicate}
+use lib.ListN.{replicate, set}
 use Rattle.market.specs.declared.Deal.{Deal}
 use Rattle.market.specs.declared.Phase.the-variants.{Open}
 use Rattle.market.specs.declared.Side.the-variants.{Buy, Sell}
@@ -12,6 +12,7 @@ use Rattle.market.specs.declared.Ticket.{Ticket}
 use Rattle.market.specs.declared.TimeInForce.the-variants.{Kept}
 use Rattle.market.specs.declared.Asset.the-variants.{Money, Pieces}
 use Rattle.market.specs.Day.{Position, account, cell, noTurnover, position, turnoverAt, withCodes}
+use Rattle.market.specs.Codes.{noCodes}
 use Rattle.market.specs.FirstDays.{firstDays}
 use Rattle.market.specs.Calendar.{begun, dayCount, daysIn, isLeap, lengthAt, secondSum, yearLength, yearOf}
 use Rattle.market.specs.Answers.{Numbers, numbersOf}
@@ -87,9 +88,9 @@ theDeal = record { price = 10; first = 1095; lots = 365; rate = 50; term = 1; bu
 abbrev pub oneLot : Deal
 oneLot = record { price = 10; first = 1095; lots = 1; rate = 0; term = 1; buyer = 0; seller = 1; security = 0 }
 
--- so many such deals are open, and so many codes given
+-- so many such deals are open, and so many codes given to participant 0
 unfoldable pub crowded : ℕ → ℕ → Ledger
-crowded deals codes = record { day = withCodes (nextDay .day) codes; date = 1096; deals = replicate deals theDeal }
+crowded deals codes = record { day = withCodes (nextDay .day) (set noCodes 0 codes); date = 1096; deals = replicate deals theDeal }
 
 -- money and pieces of participant p
 abbrev pub moneyIn : Ledger → ℕ → Position
@@ -105,9 +106,9 @@ pub record LedgerEdge : Type 0 where
   pub lateOpening : opensOn 1000 146097 ≡ refusal 24 0
   pub rateFirst : opensOn 1001 146097 ≡ refusal 22 0
   -- an offer waits, then it is met and a deal is open
-  pub offerWaits : answers (started 1095) (offer 1 (sells 10 365) 50 1) ≡ registered 3 0 365 0
+  pub offerWaits : answers (started 1095) (offer 1 (sells 10 365) 50 1) ≡ registered 2 0 365 0
   pub noDealYet : waits .deals ≡ []
-  pub offerMet : answers waits (offer 0 (buys 10 365) 50 1) ≡ registered 4 365 0 1
+  pub offerMet : answers waits (offer 0 (buys 10 365) 50 1) ≡ registered 2 365 0 1
   pub opened : lends .deals ≡ theDeal ∷ []
   pub sounds : ledgerSound lends ≡ true
   -- "It enters while open"
@@ -118,8 +119,8 @@ pub record LedgerEdge : Type 0 where
   pub closed : answers closes (offer 0 (buys 10 365) 50 1) ≡ refusal 6 0
   -- "a term outside 1 to 365" and "a .. due day outside the table" 24, "a rate over 5,000 or S1 over 10^10" 25, in this order
   -- after 8
-  pub shortest : answers lends (offer 0 (buys 10 1) 5000 1) ≡ registered 5 0 1 0
-  pub longest : answers lends (offer 0 (buys 10 1) 5000 365) ≡ registered 5 0 1 0
+  pub shortest : answers lends (offer 0 (buys 10 1) 5000 1) ≡ registered 3 0 1 0
+  pub longest : answers lends (offer 0 (buys 10 1) 5000 365) ≡ registered 3 0 1 0
   pub noTerm : answers lends (offer 0 (buys 10 1) 5000 0) ≡ refusal 24 0
   pub termOver : answers lends (offer 0 (buys 10 1) 5000 366) ≡ refusal 24 0
   pub rateOver : answers lends (offer 0 (buys 10 1) 5001 365) ≡ refusal 25 0
@@ -127,11 +128,11 @@ pub record LedgerEdge : Type 0 where
   pub priceFirst : answers lends (offer 0 (buys 11 1) 5001 366) ≡ refusal 8 0
   pub largest : answers lends (offer 0 (buys 100000 10000) 0 1) ≡ refusal 14 0
   pub sumOver : answers lends (offer 0 (buys 100005 10000) 0 1) ≡ refusal 25 0
-  pub lastDue : answers (started 146095) (offer 0 (buys 10 1) 0 1) ≡ registered 3 0 1 0
+  pub lastDue : answers (started 146095) (offer 0 (buys 10 1) 0 1) ≡ registered 2 0 1 0
   pub lateDue : answers (started 146095) (offer 0 (buys 10 1) 0 2) ≡ refusal 24 0
   -- "an offer while 64 deals are open with 26, before 13"
-  pub full : answers (crowded 64 1000000) (offer 0 (buys 10 1) 0 1) ≡ refusal 26 0
-  pub roomLeft : answers (crowded 63 1000000) (offer 0 (buys 10 1) 0 1) ≡ refusal 13 0
+  pub full : answers (crowded 64 62500) (offer 0 (buys 10 1) 0 1) ≡ refusal 26 0
+  pub roomLeft : answers (crowded 63 62500) (offer 0 (buys 10 1) 0 1) ≡ refusal 13 0
   pub codeLeft : answers (crowded 63 0) (offer 0 (buys 10 1) 0 1) ≡ registered 1 0 1 0
   pub tooMany : ledgerSound (crowded 65 0) ≡ false
   -- "In the closed phase a call begins a later day", in the table
@@ -143,7 +144,7 @@ pub record LedgerEdge : Type 0 where
   pub traded : turnoverAt (closes .day .turnover) 0 ≡ record { pieces = 10; value = 100 }
   pub untraded : turnoverAt (nextDay .day .turnover) 0 ≡ noTurnover
   pub phase : nextDay .day .phase ≡ Open
-  pub codes : nextDay .day .codes ≡ 0
+  pub codes : nextDay .day .codes ≡ noCodes
   pub date : nextDay .date ≡ 1096
   pub kept : nextDay .deals ≡ theDeal ∷ []
   pub money : moneyIn nextDay 0 ≡ record { free = 3135; blocked = 0 }

@@ -37,4 +37,5 @@ pub mod TariffEdge
 pub mod PercentEdge
 pub mod OfferEdge
 pub mod LedgerEdge
+pub mod CodesEdge
 pub mod Example

@@ -42,10 +42,10 @@ pub record OfferEdge : Type 0 where
   pub enters : answered (held 30000) 1 Sell 10 95 300 7 ≡ registered 1 0 10 0
   pub blocks : position (waits .pieces) (cell 1 0) ≡ record { free = 100; blocked = 100 }
   pub soundly : sound waits ≡ true
-  -- "It meets the oldest counter offer with all of these equal": code 3 with code 1, and code 2 stays
-  pub met : numbersOf (meetsFirst .answer) ≡ registered 3 10 0 1
+  -- "It meets the oldest counter offer with all of these equal": participant 1's code 1, and his code 2 stays
+  pub met : numbersOf (meetsFirst .answer) ≡ registered 1 10 0 1
   pub oldest : meetsFirst .trades ≡ record {
-    buyCode = 3;
+    buyCode = 1;
     sellCode = 1;
     buyer = 0;
     seller = 1;
@@ -56,15 +56,15 @@ pub record OfferEdge : Type 0 where
   } ∷ []
   pub oneLeft : length (meetsFirst .day .waiting) ≡ 1
   -- another rate, term, price or number of lots, and the same side, only wait
-  pub rate : answered waits 0 Buy 10 95 301 7 ≡ registered 2 0 10 0
-  pub term : answered waits 0 Buy 10 95 300 8 ≡ registered 2 0 10 0
-  pub price : answered waits 0 Buy 10 100 300 7 ≡ registered 2 0 10 0
-  pub part : answered waits 0 Buy 9 95 300 7 ≡ registered 2 0 9 0
+  pub rate : answered waits 0 Buy 10 95 301 7 ≡ registered 1 0 10 0
+  pub term : answered waits 0 Buy 10 95 300 8 ≡ registered 1 0 10 0
+  pub price : answered waits 0 Buy 10 100 300 7 ≡ registered 1 0 10 0
+  pub part : answered waits 0 Buy 9 95 300 7 ≡ registered 1 0 9 0
   pub side : answered waits 1 Sell 10 95 300 7 ≡ registered 2 0 10 0
   -- "never an order", neither as it enters nor as it waits
-  pub order : answered (after (held 30000) (sell 1 95 10 Kept ∷ [])) 0 Buy 10 95 300 7 ≡ registered 2 0 10 0
-  pub keptOrder : gives waits (buy 0 100 20 Kept) ≡ registered 2 0 20 0
-  pub immediate : gives waits (buy 0 100 20 ImmediateOrCancel) ≡ registered 2 0 0 0
+  pub order : answered (after (held 30000) (sell 1 95 10 Kept ∷ [])) 0 Buy 10 95 300 7 ≡ registered 1 0 10 0
+  pub keptOrder : gives waits (buy 0 100 20 Kept) ≡ registered 1 0 20 0
+  pub immediate : gives waits (buy 0 100 20 ImmediateOrCancel) ≡ registered 1 0 0 0
   -- "The first part settles as a trade, outside Q and T", and "pays the tariff"
   pub buyer : moneyOf (meetsFirst .day) 0 ≡ record { free = 20405; blocked = 0 }
   pub seller : moneyOf (meetsFirst .day) 1 ≡ record { free = 9405; blocked = 0 }

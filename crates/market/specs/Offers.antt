@@ -37,7 +37,7 @@ meets e o =
     and opposite (e .side) (o .side)
     and sameOffer (e .kind) (o .kind)
 
--- where "the oldest" of them stands: the list is by rising code
+-- where "the oldest" of them stands: the list is by rising arrival
 unfoldable pub counterOffer : Order → List Order → Index
 counterOffer e w = firstIndex (meets e) w
 

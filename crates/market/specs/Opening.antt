@@ -8,6 +8,7 @@ use Rattle.market.specs.Limits.{maxSecurities, positionNumbers}
 use Rattle.market.specs.Tests.{_=?_, allBelow}
 use Rattle.market.specs.declared.Rules.{Rules}
 use Rattle.market.specs.Day.{Day, row, noSecurity, noTurnover}
+use Rattle.market.specs.Codes.{noCodes}
 use Rattle.market.specs.Sound.{countsSound, nominalSound, rateSound, rowSound}
 use Rattle.market.specs.Answers.{Result, refused, zeros}
 use Rattle.market.specs.Questions.{Question, ask, firstNo}
@@ -20,7 +21,7 @@ opened r = record {
   money = replicate positionNumbers 0;
   pieces = replicate positionNumbers 0;
   waiting = [];
-  codes = 0;
+  codes = noCodes;
   phase = Open;
   turnover = replicate maxSecurities noTurnover;
 }

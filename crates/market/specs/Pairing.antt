@@ -23,7 +23,7 @@ pub record Terms : Type 0 where
 
 -- what stands for the other side when the oldest order of a side is looked for
 abbrev pub counterparty : Side → ℕ → Kind → Order
-counterparty side s k = record { code = 0; participant = 0; side = side; security = s; lots = 0; kind = k }
+counterparty side s k = record { code = 0; participant = 0; side = side; arrival = 0; security = s; lots = 0; kind = k }
 
 -- the first buy, and the first sell, of security s under these terms
 abbrev pub firstBuy : ℕ → Terms → Day → Best

@@ -38,6 +38,7 @@ bookOf s = record {
   filled = 0;
   left = 0;
   trades = 0;
+  code = 0;
 }
 
 -- the call that a move of reserves stands for

@@ -97,11 +97,11 @@ pub record PercentEdge : Type 0 where
       take 8
       (listAfter (after (funds (listed 1 (bond 10 1 100000) noSecurity 1000) 3000000) (sell 1 9950 1 Kept ∷ []))
       (buy 0 9960 2 Kept))
-      ≡ 2 ∷ 1 ∷ 0 ∷ 1 ∷ 0 ∷ 9950 ∷ 1 ∷ 995000 ∷ []
+      ≡ 1 ∷ 1 ∷ 0 ∷ 1 ∷ 0 ∷ 9950 ∷ 1 ∷ 995000 ∷ []
   pub buyer : moneyOf bought 0 ≡ record { free = 989090; blocked = 1005960 }
   pub seller : moneyOf bought 1 ≡ record { free = 985050; blocked = 0 }
   pub market : account (bought .money) 0 ≡ 19900
-  pub cancelled : moneyOf (after bought (cancel 0 2 ∷ [])) 0 ≡ record { free = 1995050; blocked = 0 }
+  pub cancelled : moneyOf (after bought (cancel 0 1 ∷ [])) 0 ≡ record { free = 1995050; blocked = 0 }
   -- "T .. adds price × pieces"
   pub turnover : turnoverAt (bought .turnover) 0 ≡ record { pieces = 10; value = 99500 }
   -- "A buyer's blocked money falls in a trade by the fall in what his order needs, and what the trade doesn't cost is freed":
@@ -110,9 +110,9 @@ pub record PercentEdge : Type 0 where
   pub unfilled : moneyOf (after odd (buy 0 5000 2 ImmediateOrCancel ∷ [])) 0 ≡ record { free = 5001; blocked = 0 }
   -- "its closing price is in percent, rounded as in T-01": 19,901 / 2
   pub closingAt : closingPrice (turnoverAt (twoPrices .turnover) 0) ≡ 9951
-  pub ended : take 8 (listAfter closingPair endSession) ≡ 5 ∷ 6 ∷ 0 ∷ 1 ∷ 0 ∷ 9951 ∷ 1 ∷ 99510 ∷ []
+  pub ended : take 8 (listAfter closingPair endSession) ≡ 3 ∷ 3 ∷ 0 ∷ 1 ∷ 0 ∷ 9951 ∷ 1 ∷ 99510 ∷ []
   -- the auction's price is in percent, too: 9,900 for 2 pieces of 12,345
-  pub auction : take 8 (listAfter collected endCollecting) ≡ 1 ∷ 2 ∷ 0 ∷ 1 ∷ 0 ∷ 9900 ∷ 2 ∷ 24443 ∷ []
+  pub auction : take 8 (listAfter collected endCollecting) ≡ 1 ∷ 1 ∷ 0 ∷ 1 ∷ 0 ∷ 9900 ∷ 2 ∷ 24443 ∷ []
   pub freed : moneyOf (after collected (endCollecting ∷ [])) 0 ≡ record { free = 75557; blocked = 0 }
 
 -- all of them hold

@@ -78,14 +78,14 @@ pub record TariffEdge : Type 0 where
   pub seller : moneyOf fills 1 ≡ record { free = 9405; blocked = 0 }
   pub market : account (fills .money) 0 ≡ 190
   -- trade list and T stay without fees
-  pub tradeSum : take 8 (listAfter offers (buy 0 100 20 Kept)) ≡ 2 ∷ 1 ∷ 0 ∷ 1 ∷ 0 ∷ 95 ∷ 10 ∷ 9500 ∷ []
+  pub tradeSum : take 8 (listAfter offers (buy 0 100 20 Kept)) ≡ 1 ∷ 1 ∷ 0 ∷ 1 ∷ 0 ∷ 95 ∷ 10 ∷ 9500 ∷ []
   pub turnover : turnoverAt (fills .turnover) 0 ≡ record { pieces = 100; value = 9500 }
   -- "what its remaining lots need is reckoned the same way; whatever a partial fill leaves over is freed": 198 and 1 fall
   -- to 99, and 99 are paid
   pub oddUnit : moneyOf (after odd (buy 0 99 2 Kept ∷ [])) 0 ≡ record { free = 1; blocked = 99 }
   pub noFee : account ((after odd (buy 0 99 2 Kept ∷ [])) .money) 0 ≡ 0
   -- the places that free money free the fee with it: a cancellation, an unfilled part, the start of closing
-  pub cancelled : moneyOf (after fills (cancel 0 2 ∷ [])) 0 ≡ record { free = 20405; blocked = 0 }
+  pub cancelled : moneyOf (after fills (cancel 0 1 ∷ [])) 0 ≡ record { free = 20405; blocked = 0 }
   pub unfilled : moneyOf (after offers (buy 0 100 20 ImmediateOrCancel ∷ [])) 0 ≡ record { free = 20405; blocked = 0 }
   pub started : moneyOf (after fills (startClosing ∷ [])) 0 ≡ record { free = 20405; blocked = 0 }
   -- a trade with oneself pays twice

@@ -8,7 +8,7 @@ use Rattle.market.specs.declared.OrderBook.{OrderBook}
 use Rattle.market.specs.declared.Phase.{Phase}
 use Rattle.market.specs.declared.Rules.{Rules}
 use Rattle.market.specs.declared.State.{State}
-use Rattle.market.specs.Limits.{maxSecurities, positionNumbers}
+use Rattle.market.specs.Limits.{maxParticipants, maxSecurities, positionNumbers}
 use Rattle.market.specs.Day.{Day, noOrder}
 
 -- "Places past the counts aren't read": the first n of an array, blanks past its end, so that a count above its length shows
@@ -57,4 +57,5 @@ pub record Sized (d : Day) : Type 0 where
   pub table : length (d .rules .table) ≡ maxSecurities
   pub money : length (d .money) ≡ positionNumbers
   pub pieces : length (d .pieces) ≡ positionNumbers
+  pub codes : length (d .codes) ≡ maxParticipants
   pub turnover : length (d .turnover) ≡ maxSecurities

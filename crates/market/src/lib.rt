@@ -36,6 +36,9 @@ pub const HUNDRED_PERCENT: u64 = 10000;
 
 pub const MAX_WAITING: u64 = 128;
 
+// Codes of one participant, and of all of them together.
+pub const MAX_OWN_CODES: u64 = 62500;
+
 pub const MAX_CODES: u64 = 1000000;
 
 pub const MAX_PIECES: u64 = 10000000;
@@ -67,7 +70,7 @@ pub const MAX_DEALS: u64 = 64;
 pub const MARKET: u64 = 16;
 
 // The limits in the order of specs/Limits, each equal to the definition's.
-pub fn limits() -> [u64; 27]
+pub fn limits() -> [u64; 28]
     ensures { λ r. ⌜ r ≡ limitsInOrder ⌝ }
 {
     [
@@ -85,6 +88,7 @@ pub fn limits() -> [u64; 27]
         MAX_PERCENT_PRICE,
         HUNDRED_PERCENT,
         MAX_WAITING,
+        MAX_OWN_CODES,
         MAX_CODES,
         MAX_PIECES,
         LENT_AT_LEAST as u64,
@@ -164,11 +168,13 @@ pub struct Turnover {
     pub value: u64,
 }
 
-// A waiting order.
+// A waiting order: its participant's own code, and the arrival number, which is never shown. Arrival lies in what a side leaves
+// free.
 pub struct Order {
     pub code: u64,
     pub participant: u64,
     pub side: Side,
+    pub arrival: u32,
     pub security: u64,
     pub lots: u64,
     pub kind: Kind,
@@ -247,7 +253,8 @@ pub struct Records {
 }
 
 // A position's cell is participant * 16 + currency or security, free at twice that cell and blocked behind it; the row
-// behind the participants' 16 is the market's own account. The first `count` orders wait.
+// behind the participants' 16 is the market's own account. The first `count` orders wait. `codes` are those given, of each
+// participant.
 pub struct State {
     pub participants: u64,
     pub currencies: u64,
@@ -257,7 +264,7 @@ pub struct State {
     pub pieces: [u64; 544],
     pub orders: [Order; 128],
     pub count: usize,
-    pub codes: u64,
+    pub codes: [u64; 16],
     pub phase: Phase,
     pub turnover: [Turnover; 16],
     pub rate: u64,
@@ -271,15 +278,16 @@ pub enum Answer {
 }
 
 // What order entry changes besides the positions: the waiting orders (the first `count`), codes given, Q and T; and of
-// the last entry the lots filled, the lots left, and its trades, so that `book = call(book, ..)` writes over `book`.
+// the last entry the lots filled, the lots left, its trades and its code, so that `book = call(book, ..)` writes over `book`.
 pub struct OrderBook {
     pub orders: [Order; 128],
     pub count: usize,
-    pub codes: u64,
+    pub codes: [u64; 16],
     pub turnover: [Turnover; 16],
     pub filled: u64,
     pub left: u64,
     pub trades: u64,
+    pub code: u64,
 }
 
 // What a call on the parts of a day comes to, besides positions and trade list.
@@ -328,15 +336,17 @@ pub fn book_of(s: State) -> OrderBook
     ensures { λ r. ⌜ r ≡ bookOf s ⌝ }
 {
     let orders = s.orders;
+    let codes = s.codes;
     let turnover = s.turnover;
     OrderBook {
         orders,
         count: s.count,
-        codes: s.codes,
+        codes,
         turnover,
         filled: 0,
         left: 0,
         trades: 0,
+        code: 0,
     }
 }
 
@@ -367,6 +377,7 @@ pub fn state_with(
 {
     let table = s.table;
     let orders = book.orders;
+    let codes = book.codes;
     let turnover = book.turnover;
     State {
         participants: s.participants,
@@ -377,7 +388,7 @@ pub fn state_with(
         pieces,
         orders,
         count: book.count,
-        codes: book.codes,
+        codes,
         phase,
         turnover,
         rate: s.rate,
@@ -398,10 +409,10 @@ pub fn declined(book: OrderBook, phase: Phase, number: u64) -> Carried
 
 // The registered order: code, lots filled, lots left waiting and trades are those that the book has last.
 pub fn registered(book: OrderBook, phase: Phase) -> Carried
-    ensures { λ r. ⌜ r ≡ record { answer = Done (book .codes) (book .filled) (book .left) (book .trades); phase = phase; book = book } ⌝ }
+    ensures { λ r. ⌜ r ≡ record { answer = Done (book .code) (book .filled) (book .left) (book .trades); phase = phase; book = book } ⌝ }
 {
     Carried {
-        answer: Answer::Done(book.codes, book.filled, book.left, book.trades),
+        answer: Answer::Done(book.code, book.filled, book.left, book.trades),
         phase,
         book,
     }

@@ -10,7 +10,7 @@ use Rattle.market.specs.declared.Order.{Order}
 use Rattle.market.specs.declared.OrderBook.{OrderBook}
 use Rattle.market.specs.declared.Listing.{Listing}
 use Rattle.market.specs.declared.Turnover.{Turnover}
-use Rattle.market.specs.Limits.{maxSecurities, maxWaiting, numbersPerTrade}
+use Rattle.market.specs.Limits.{maxParticipants, maxSecurities, maxWaiting, numbersPerTrade}
 use Rattle.market.specs.Tests.{_≤?_}
 use Rattle.market.specs.declared.Rules.{Rules}
 use Rattle.market.specs.Day.{Day, orderAt, turnoverAt, withLots}
@@ -96,15 +96,19 @@ module _ {s : Start} {m k v : List ℕ} {b : OrderBook} {left made : ℕ} (g : G
   pub going-security : s .e .security < maxSecurities
   going-security = omega (arith, g .flies .flight .security, g .flies .flight .backed .rulesOk .securities)
 
+  pub going-participant : s .e .participant < maxParticipants
+  going-participant = omega (arith, g .flies .flight .participant, g .flies .flight .backed .rulesOk .participants)
+
   -- where matching ends, what the contract says holds
   pub going-ends : fill day entry ≡ record { day = day; entry = entry; trades = [] } → (b′ : OrderBook)
       → openDay (s .r) m k b′ ≡ day → b′ .filled ≡ s .e .lots - left → b′ .left ≡ left → b′ .trades ≡ made
-      → FilledAs (whole s) (s .r) (s .e) (s .v) m k v b′
-  going-ends h b′ same filled rest count = record {
+      → b′ .code ≡ s .e .code → FilledAs (whole s) (s .r) (s .e) (s .v) m k v b′
+  going-ends h b′ same filled rest count code = record {
     day = same ∙ sym (ap (λ (f : Filled). f .day) h) ∙ g .day;
     entry = ap (withLots (s .e)) rest ∙ sym (ap (λ (f : Filled). f .entry) h) ∙ g .rest;
     filled = filled ∙ ap (λ (x : ℕ). s .e .lots - x) (sym rest);
     count = omega (arith, count, g .trades, ap (λ (f : Filled). length (f .trades)) h);
+    code = code;
     list =
         sym (take-append-drop (numbersPerTrade * made) v)
         ∙ sym (ap (λ (f : Filled). writtenFrom made (f .trades) v) h)

@@ -4,7 +4,6 @@ use native.Mathlib.Omega.{arith}
 use mathlib.Core.Path.{_≡_, ap, sym, _∙_}
 use mathlib.Core.List.{List, []}
 use lib.ListN.{length}
-use borrow.Author.Tests.{leb-true}
 use Rattle.market.specs.declared.Asset.{Asset}
 use Rattle.market.specs.declared.Asset.the-variants.{Money, Pieces}
 use Rattle.market.specs.declared.Listing.{Listing}
@@ -14,7 +13,7 @@ use Rattle.market.specs.declared.Phase.{Phase}
 use Rattle.market.specs.declared.Rules.{Rules}
 use Rattle.market.specs.declared.Side.the-variants.{Buy, Sell}
 use Rattle.market.specs.declared.Turnover.{Turnover}
-use Rattle.market.specs.Limits.{maxCodes, maxLots, maxPrice, numbersPerTrade}
+use Rattle.market.specs.Limits.{maxLots, maxPrice, numbersPerTrade}
 use Rattle.market.specs.Day.{Day, noOrder, orderAt, turnoverAt}
 use Rattle.market.specs.View.{dayOf}
 use Rattle.market.specs.Needs.{limitOf, needAt, piecesOf, sumFor, valueFor}
@@ -26,6 +25,7 @@ use Rattle.market.proofs.Lists.{all-at, sum-remove}
 use Rattle.market.proofs.Needs.{pieces-small, value-small}
 use Rattle.market.proofs.Known.{OrderOk, listing-ok}
 use Rattle.market.proofs.Pairs.{Stands}
+use Rattle.market.proofs.Codes.{given-top}
 use Rattle.invariant.specs.Standing.{KindOk, Standing, needsOf}
 use Rattle.invariant.proofs.Whole.{limit-fits}
 use Rattle.invariant.proofs.Pairing.{pair-buy, pair-one, pair-sell}
@@ -93,7 +93,7 @@ module _ {r : Rules} {x : Phase} {l : Listing} {b : OrderBook} {s p i j n : ℕ}
   countable =
       let q = h .standing .turnovers (buy .security) (buyOk .security) in
       let lot = h .standing .backed .rulesOk .lot (buy .security) (buyOk .security) in
-      let codes = leb-true (b .codes) maxCodes (h .standing .limit) in
+      let codes = given-top d (h .standing .backed .rulesOk) (h .standing .limit) in
       let lots : n ≤ maxLots = omega (arith, buyOk .top, h .bought) in
       record {
         roomQ = omega (arith, q .top);

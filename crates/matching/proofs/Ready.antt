@@ -5,7 +5,6 @@ use mathlib.Core.Path.{_≡_, refl, ap, sym, _∙_, subst}
 use mathlib.Core.List.{List, [], _∷_, _++_}
 use mathlib.Core.Bool.{true}
 use lib.ListN.{length, set}
-use borrow.Author.Tests.{leb-true}
 use Rattle.market.specs.declared.Order.{Order}
 use Rattle.market.specs.declared.OrderBook.{OrderBook}
 use Rattle.market.specs.declared.Phase.{Phase}
@@ -13,7 +12,7 @@ use Rattle.market.specs.declared.Listing.{Listing}
 use Rattle.market.specs.declared.Side.{Side}
 use Rattle.market.specs.declared.Side.the-variants.{Buy, Sell}
 use Rattle.market.specs.declared.Turnover.{Turnover}
-use Rattle.market.specs.Limits.{market, maxCodes, maxLots, maxPrice, moneyLimit, numbersPerTrade}
+use Rattle.market.specs.Limits.{market, maxLots, maxPrice, moneyLimit, numbersPerTrade}
 use Rattle.market.specs.declared.Rules.{Rules}
 use Rattle.market.specs.declared.Asset.{Asset}
 use Rattle.market.specs.declared.Asset.the-variants.{Money, Pieces}
@@ -35,6 +34,7 @@ use Rattle.market.proofs.Needs.{fall-pays, fall-sells, fee-shared, need-own, pi
 use Rattle.market.proofs.Needs.{value-small}
 use Rattle.market.proofs.Known.{OrderOk, listing-ok}
 use Rattle.market.proofs.Matching.{Chosen}
+use Rattle.market.proofs.Codes.{given-top}
 use Rattle.positions.specs.Payable.{Payable}
 use Rattle.invariant.specs.Standing.{Backed, Held, Standing, needsOf}
 use Rattle.invariant.proofs.Held.{held-account, held-cell, held-within}
@@ -233,7 +233,7 @@ module _ {r : Rules} {l : Listing} {b : OrderBook} {e : Order} {m k : List ℕ} 
       let room = only-same s (piecesOf x (e .lots)) in
       let split = pieces-split x (e .lots) n ne in
       let price = range d e g i p n some chosen ne no in
-      let codes = leb-true (b .codes) maxCodes (g .limit) in
+      let codes = given-top d (g .backed .rulesOk) (g .limit) in
       let lot = g .backed .rulesOk .lot s (g .security) in
       let lots : n ≤ maxLots = omega (arith, g .top) in
       record {

@@ -38,6 +38,7 @@ pub record FilledAs (f : Filled) (r : Rules) (e : Order) (v m′ k′ v′ : Lis
   pub entry : withLots e (b′ .left) ≡ f .entry
   pub filled : b′ .filled ≡ e .lots - b′ .left
   pub count : b′ .trades ≡ length (f .trades)
+  pub code : b′ .code ≡ e .code
   pub list : v′ ≡ written (f .trades) v
 
 -- under all such rules

@@ -370,7 +370,7 @@ pub fn fill(
     let reach = rank(side, price_of(own)) + 1;
     // Matching ends at the first of: the entry is full, or no waiting counter order fits.
     'fill: while 0 < left {
-        // Best price comes first, then lowest code: the list is by rising code. Two plain numbers hold what is found;
+        // Best price comes first, then earliest arrival: the list is by rising arrival. Two plain numbers hold what is found;
         // the place is `count` until then.
         let count = book.count;
         let mut best = count;
@@ -423,9 +423,10 @@ pub fn fill(
         left -= lots;
         made += 1;
     }
-    book.codes = e.code;
+    book.codes[e.participant as usize] = e.code;
     book.filled = e.lots - left;
     book.left = left;
     book.trades = made as u64;
+    book.code = e.code;
     book
 }

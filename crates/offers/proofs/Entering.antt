@@ -78,7 +78,7 @@ module _ {r : Rules} {x : Phase} {l : Listing} {b : OrderBook} {e : Order} {m k 
     entry-meets {v} {m′} {k′} {v′} {b′} h =
         let last = length (waitingIn b) in
         let registered = p .answer in
-        let code : b1 .codes ≡ e .code = cc in
+        let code : b1 .code ≡ e .code = cc in
         let all = ap (λ (z : Day). pairUp z e last at) (p .day) in
         rw ((one-counter b e at place q) .0)
         (record {

@@ -211,9 +211,9 @@ module _ {r : Rules} {x : Phase} {l : Listing} {b : OrderBook} {i : ℕ} {w : Li
             ∙ sym (later-first (waitingIn b) (e .side) last i n (f .inside))
 
         pub met-done : (b′ : OrderBook) → b′ .orders ≡ u → b′ .count ≡ b .count - 1 - 1 → b′ .codes ≡ b .codes
-            → b′ .turnover ≡ b .turnover → b′ .filled ≡ entry .lots → b′ .left ≡ 0 → b′ .trades ≡ 1
+            → b′ .turnover ≡ b .turnover → b′ .filled ≡ entry .lots → b′ .left ≡ 0 → b′ .trades ≡ 1 → b′ .code ≡ b .code
             → MetAs (pairUp d e (length w) i) e r x b v m′ k′ v′ b′
-        met-done b′ orders count codes turnover filled left trades =
+        met-done b′ orders count codes turnover filled left trades code =
             let off : waitingIn b′ ≡ takeBoth (waitingIn b) bid ask n =
             ap (λ (a : ℕ). firstOrders a (b′ .orders)) count ∙ ap (firstOrders (b .count - 1 - 1)) orders ∙ gone in
             let lots : b′ .filled ≡ e .lots = filled ∙ lots-is in
@@ -221,5 +221,5 @@ module _ {r : Rules} {x : Phase} {l : Listing} {b : OrderBook} {i : ℕ} {w : Li
               day =
                   day-paired pair turnover-is (one ∙ buy-is) (other ∙ sell-is) (price ∙ price-is) lots-is done b′ off codes turnover;
               list = listed ∙ one-written (tradeOf r buy sell p n) v;
-              answer = rw (codes, lots, left, trades);
+              answer = rw (code, lots, left, trades);
             }

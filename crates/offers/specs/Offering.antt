@@ -53,7 +53,7 @@ pub record MetAs (p : Paired) (e : Order) (r : Rules) (x : Phase) (b : OrderBook
     : Type 0 where
   pub day : dayOf r x m′ k′ b′ ≡ p .day
   pub list : v′ ≡ written (p .trades) v
-  pub answer : Done (b′ .codes) (b′ .filled) (b′ .left) (b′ .trades) ≡ Done (b .codes) (e .lots) 0 1
+  pub answer : Done (b′ .code) (b′ .filled) (b′ .left) (b′ .trades) ≡ Done (b .code) (e .lots) 0 1
 
 -- under all such rules, in all such phases
 abbrev pub FirstParts : Listing → OrderBook → ℕ → (m k v m′ k′ v′ : List ℕ) → OrderBook → Type 0
@@ -70,7 +70,7 @@ pub record Offerable (l : Listing) (b : OrderBook) (e : Order) (m k v : List ℕ
 
 -- answer, day and lent list are those of a result
 pub record OfferedAs (z : Result) (r : Rules) (x : Phase) (v m′ k′ v′ : List ℕ) (b′ : OrderBook) : Type 0 where
-  pub answer : Done (b′ .codes) (b′ .filled) (b′ .left) (b′ .trades) ≡ z .answer
+  pub answer : Done (b′ .code) (b′ .filled) (b′ .left) (b′ .trades) ≡ z .answer
   pub day : dayOf r x m′ k′ b′ ≡ z .day
   pub list : v′ ≡ written (z .trades) v
 

@@ -3,48 +3,19 @@ use Prim.Native.Nat.{ℕ, _<_}
 use native.Mathlib.Omega.{arith}
 use mathlib.Core.Path.{_≡_, ap, sym, _∙_}
 use mathlib.Core.Bool.{Bool, true, false}
-use mathlib.Core.List.{[]}
-use lib.ListN.{replicate}
 use borrow.Author.Tests.{ne-eqb}
 use Rattle.market.specs.declared.Answer.the-variants.{Done, Refused}
 use Rattle.market.specs.declared.Outcome.{Outcome}
-use Rattle.market.specs.declared.Phase.the-variants.{Open}
-use Rattle.market.specs.declared.Records.{Records}
 use Rattle.market.specs.declared.Rules.{Rules}
 use Rattle.market.specs.Tests.{_=?_, allBelow}
-use Rattle.market.specs.Limits.{maxSecurities, maxWaiting, positionNumbers}
-use Rattle.market.specs.Day.{Day, noOrder, noTurnover, row}
+use Rattle.market.specs.Day.{row}
 use Rattle.market.specs.Sound.{countsSound, nominalSound, rateSound}
 use Rattle.market.specs.Answers.{numbersOf}
 use Rattle.market.specs.Opening.{noRules, wrongLine}
-use Rattle.market.specs.Ledger.{around, whole}
+use Rattle.market.specs.Ledger.{whole}
 use Rattle.market.specs.ActStep.{onTable, openLedger, openedLedger}
-use Rattle.market.specs.Contract.{Opens, emptyState, noRecords}
+use Rattle.market.specs.Contract.{Opens}
 use Rattle.opening.specs.Opening.{RefusedOpening}
-
--- with no deal open
-pub around-none : (d : Day) (z : Records) (date : ℕ) → z ≡ noRecords date
-    → around d z ≡ record { day = d; date = date; deals = [] }
-around-none d z date h = ap (around d) h
-
--- the empty state, with records that are blank
-pub with-records : (r : Rules) (date : ℕ) (z : Records) → z ≡ noRecords date
-    → record {
-      participants = r .participants;
-      currencies = r .currencies;
-      securities = r .securities;
-      table = r .table;
-      money = replicate positionNumbers 0;
-      pieces = replicate positionNumbers 0;
-      orders = replicate maxWaiting noOrder;
-      count = 0;
-      codes = 0;
-      phase = Open;
-      turnover = replicate maxSecurities noTurnover;
-      rate = r .rate;
-      records = z;
-    } ≡ emptyState r date
-with-records r date z h = rw h
 
 module _ (r : Rules) (date : ℕ) (o : Outcome) where
   abbrev counts : Bool

@@ -72,6 +72,7 @@ fn opened(rules: Rules, date: u64) -> State
         code: 0,
         participant: 0,
         side: Side::Buy,
+        arrival: 0,
         security: 0,
         lots: 0,
         kind: Kind::Kept(0),
@@ -85,7 +86,7 @@ fn opened(rules: Rules, date: u64) -> State
         pieces: [0; 544],
         orders: [blank; 128],
         count: 0,
-        codes: 0,
+        codes: [0; 16],
         phase: Phase::Open,
         turnover: [Turnover {
             pieces: 0,

@@ -15,6 +15,7 @@ use Rattle.market.specs.declared.Turnover.{Turnover}
 use Rattle.market.specs.Limits.{maxLots, maxPrice, maxSecurities, maxWaiting}
 use Rattle.market.specs.declared.Rules.{Rules}
 use Rattle.market.specs.Day.{Day, turnoverAt, withCodes, withLots}
+use Rattle.market.specs.Codes.{codesOf, giveCode}
 use Rattle.market.specs.Needs.{limitOf}
 use Rattle.market.specs.Positions.{block, blockFor, release, releaseFor}
 use Rattle.market.specs.TradeList.{written}
@@ -44,7 +45,7 @@ record Passed (d : Day) (e : Order) (f : TimeInForce) : Type 0 where
   security : e .security < d .rules .securities
   top : e .lots ≤ maxLots
   priced : EntryOk (d .rules) e
-  code : e .code ≡ d .codes + 1
+  code : e .code ≡ codesOf d (e .participant) + 1
   room : roomFor f d ≡ true
 
 priced-limit : (r : Rules) (t : List Turnover) (e : Order) → EntryOk r e → limitOf t e ≤ maxPrice
@@ -93,8 +94,8 @@ module _ {r : Rules} {l : Listing} {b : OrderBook} {e : Order} {f : TimeInForce}
     day-admitted : openDay r m1 k1 b1 ≡ admitted d e
     unfolding admitted blockFor
     day-admitted =
-        ap (λ (n : ℕ). withCodes (openDay r m1 k1 b1) n) (passed .code)
-        ∙ day-moved (withCodes d (b .codes + 1)) l e (a .listing) block m1 k1 em ek
+        ap (λ (n : ℕ). withCodes (openDay r m1 k1 b1) (set (b .codes) (e .participant) n)) (passed .code)
+        ∙ day-moved (giveCode d (e .participant)) l e (a .listing) block m1 k1 em ek
 
     pub flies : Flies r l b1 e m1 k1
     flies = record { listing = a .listing; flight = subst (λ (x : Day). InFlight x e) (sym day-admitted) (passed .flight) }
@@ -162,12 +163,12 @@ module _ {r : Rules} {l : Listing} {b : OrderBook} {e : Order} {f : TimeInForce}
         whole : fill (openDay r m1 k1 b1) e ≡ fill (admitted d e) e
         whole = ap (λ (x : Day). fill x e) day-admitted
 
-        gives : (b3 : OrderBook) → b3 .codes ≡ b2 .codes → b3 .filled ≡ b2 .filled → b3 .left ≡ n → b3 .trades ≡ b2 .trades
+        gives : (b3 : OrderBook) → b3 .code ≡ b2 .code → b3 .filled ≡ b2 .filled → b3 .left ≡ n → b3 .trades ≡ b2 .trades
             → openDay r m3 k3 b3 ≡ finished f d2 rest → EntersAs (entered d e f) r v m3 k3 v2 b3
         unfolding entered
-        gives b3 codes fills left trades day =
+        gives b3 coded fills left trades day =
             let x = fill (admitted d e) e in
-            let code : b3 .codes ≡ e .code = codes ∙ ap (λ (q : Day). q .codes) (g .day) ∙ few .codes in
+            let code : b3 .code ≡ e .code = coded ∙ g .code in
             let lots : b3 .filled ≡ e .lots - x .entry .lots =
             fills ∙ g .filled ∙ ap (λ (q : ℕ). e .lots - q) (left-is ∙ ap (λ (q : Filled). q .entry .lots) whole) in
             let waits : b3 .left ≡ leftWaiting f (x .entry) =
@@ -192,6 +193,7 @@ module _ {r : Rules} {l : Listing} {b : OrderBook} {e : Order} {f : TimeInForce}
               filled = b2 .filled;
               left = n;
               trades = b2 .trades;
+              code = b2 .code;
             })
         gives-done h = gives _ refl refl refl refl (none-waits h)
 
@@ -205,6 +207,7 @@ module _ {r : Rules} {l : Listing} {b : OrderBook} {e : Order} {f : TimeInForce}
               filled = b2 .filled;
               left = n;
               trades = b2 .trades;
+              code = b2 .code;
             })
         gives-waits h inside =
             gives _ refl refl refl refl

@@ -1,10 +1,10 @@
 -- What the questions of an order tell, on the parts of a sound day.
-use Prim.Native.Nat.{ℕ, _≤_, _<_}
+use Prim.Native.Nat.{ℕ, _<_}
 use native.Mathlib.Omega.{arith}
 use mathlib.Core.Path.{_≡_, refl, ap, sym, _∙_, subst}
 use mathlib.Core.List.{List, [], _∷_}
 use mathlib.Core.Bool.{true, false}
-use borrow.Author.Tests.{leb-true, ltb-true}
+use borrow.Author.Tests.{ltb-true}
 use Rattle.market.specs.declared.Access.{Access}
 use Rattle.market.specs.declared.Access.the-variants.{Member}
 use Rattle.market.specs.declared.Ticket.{Ticket}
@@ -15,7 +15,7 @@ use Rattle.market.specs.declared.Phase.the-variants.{Open}
 use Rattle.market.specs.declared.Rules.{Rules}
 use Rattle.market.specs.declared.TimeInForce.{TimeInForce}
 use Rattle.market.specs.declared.TimeInForce.the-variants.{FillOrKill}
-use Rattle.market.specs.Limits.{maxCodes, maxSecurities}
+use Rattle.market.specs.Limits.{maxSecurities}
 use Rattle.market.specs.Day.{Day}
 use Rattle.market.specs.Parts.{listing}
 use Rattle.market.specs.View.{dayOf}
@@ -29,19 +29,17 @@ use Rattle.invariant.proofs.Placed.{kept-placeable}
 use Rattle.matching.specs.Filling.{openDay}
 use Rattle.matching.specs.Orders.{FewLots, waitingIn}
 use Rattle.matching.proofs.Ready.{few-waiting}
+use Rattle.codes.specs.Numbers.{Numberable}
 use Rattle.waiting.specs.Appending.{Admits}
-use Rattle.orders.specs.Entering.{Accepts, Known, entryWith, fillableIn, memberNo, orderNo}
-use Rattle.orders.proofs.Asking.{whole-last}
+use Rattle.orders.specs.Entering.{Accepts, Known, claimWith, entryWith, fillableIn, memberNo, orderNo}
+use Rattle.orders.proofs.Asking.{counted, whole-last}
 
 module _ (r : Rules) (x : Phase) (m k : List ℕ) (b : OrderBook) (standing : Standing (dayOf r x m k b)) where
   abbrev d : Day
   d = dayOf r x m k b
 
-  pub codes-given : b .codes ≤ maxCodes
-  codes-given = leb-true (b .codes) maxCodes (standing .limit)
-
   pub rules-known : Known r (b .codes)
-  rules-known = record { rules = standing .backed .rulesOk; codes = codes-given }
+  rules-known = record { rules = standing .backed .rulesOk; codes = standing .limit }
 
   pub few-lots : FewLots (b .count) (waitingIn b)
   few-lots = few-waiting r x m k b standing
@@ -52,28 +50,36 @@ module _ (r : Rules) (x : Phase) (m k : List ℕ) (b : OrderBook) (standing : St
     asked = entryQuestions d p t a f
 
     abbrev last : List Question
-    last = ask 15 (fillableIn f (waitingIn b) (entryWith (b .codes) p t)) ∷ []
+    last = ask 15 (fillableIn f (waitingIn b) (claimWith p t)) ∷ []
 
     -- a "no" before question 15
     pub no-first : (n : ℕ) → 0 < n → n ≡ firstNo asked → orderNo d p t a f ≡ n
     no-first n h e = whole-last r x m k b p t a f ∙ hides asked last (omega arith) ∙ sym e
 
-    -- there is none, and question 15 is asked of the entry e
-    module _ (none : firstNo asked ≡ 0) {e : Order} (entry : e ≡ entryWith (b .codes) p t) where
+    -- there is none: the order can be numbered
+    pub numberable : firstNo asked ≡ 0 → Numberable (r .participants) (b .codes) p
+    numberable none = counted rules-known (ltb-true p (r .participants) (yes 4 asked (all-yes asked tt none)))
+
+    -- and question 15 is asked of the claim
+    module _ (none : firstNo asked ≡ 0) where
       to-last : orderNo d p t a f ≡ firstNo last
       to-last = whole-last r x m k b p t a f ∙ passes asked last (all-yes asked tt none)
 
-      pub no-whole : fillableIn f (waitingIn b) e ≡ false → orderNo d p t a f ≡ 15
-      no-whole h = to-last ∙ rw (← entry, h)
+      pub no-whole : fillableIn f (waitingIn b) (claimWith p t) ≡ false → orderNo d p t a f ≡ 15
+      no-whole h = to-last ∙ rw h
 
-      pub no-none : fillableIn f (waitingIn b) e ≡ true → orderNo d p t a f ≡ 0
-      no-none h = to-last ∙ rw (← entry, h)
+      pub no-none : fillableIn f (waitingIn b) (claimWith p t) ≡ true → orderNo d p t a f ≡ 0
+      no-none h = to-last ∙ rw h
 
     -- all are answered "yes"
     module _ (none : orderNo d p t a f ≡ 0) where
       yeses : AllYes (orderQuestions d p t a f)
       unfolding orderQuestions
       yeses = all-yes (orderQuestions d p t a f) tt none
+
+      pub owned : Numberable (r .participants) (b .codes) p
+      unfolding orderQuestions
+      owned = counted rules-known (ltb-true p (r .participants) (yes 4 (orderQuestions d p t a f) yeses))
 
       pub in-table : t .security < maxSecurities
       unfolding orderQuestions
@@ -93,7 +99,7 @@ module _ (r : Rules) (x : Phase) (m k : List ℕ) (b : OrderBook) (standing : St
         pub same-day : d ≡ openDay r m k b
         same-day = ap (λ (z : Phase). dayOf r z m k b) opens
 
-        pub accepts : {e : Order} → e ≡ entryWith (b .codes) p t → Accepts r (listing r (t .security)) b e f m k
+        pub accepts : {e : Order} → e ≡ entryWith (r .participants) (b .codes) p t → Accepts r (listing r (t .security)) b e f m k
         accepts entry = record {
           listing = ap (λ (o : Order). listing r (o .security)) entry;
           standing = subst Standing same-day standing;
@@ -107,7 +113,7 @@ module _ (r : Rules) (x : Phase) (m k : List ℕ) (b : OrderBook) (standing : St
   -- an order whose questions are all answered "yes"
   module _ (p : ℕ) (t : Ticket) (f : TimeInForce) (none : orderNo d p t (orderAccess f) f ≡ 0) where
     -- while collecting it is a kept one, which only waits
-    pub waits : isCollecting x ≡ true → {e : Order} → e ≡ entryWith (b .codes) p t → Admits r x (listing r (t .security)) b e m k
+    pub waits : isCollecting x ≡ true → {e : Order} → e ≡ entryWith (r .participants) (b .codes) p t → Admits r x (listing r (t .security)) b e m k
     waits collects entry =
         let kept = enters-kept f x (enters p t (orderAccess f) f none) collects in
         rw entry

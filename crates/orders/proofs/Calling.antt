@@ -34,8 +34,9 @@ use Rattle.invariant.specs.Standing.{Standing}
 use Rattle.invariant.proofs.Sound.{ready-standing}
 use Rattle.matching.specs.Filling.{openDay}
 use Rattle.matching.specs.Orders.{FewLots, waitingIn}
+use Rattle.codes.specs.Numbers.{Numberable}
 use Rattle.waiting.specs.Appending.{Admits, Appendable, Appends}
-use Rattle.orders.specs.Entering.{Accepts, Enterable, Enters, Known, entryWith, fillableIn, orderNo}
+use Rattle.orders.specs.Entering.{Accepts, Enterable, Enters, Known, claimWith, entryWith, fillableIn, orderNo}
 use Rattle.orders.proofs.Answered as answered
 
 module _ (r : Rules) (x : Phase) (m k : List ℕ) (b : OrderBook) (ready : Ready r x m k b) where
@@ -76,22 +77,25 @@ module _ (r : Rules) (x : Phase) (m k : List ℕ) (b : OrderBook) (ready : Ready
       refuse-first n h e =
           carries-refuse r x m k b v call (ready .sound) n h (from-four ∙ answered.no-first r x m k b standing p t (orderAccess f) f n h e)
 
-      -- while collecting, question 15 is not asked
-      pub collects-whole : firstNo asked ≡ 0 → isCollecting x ≡ true → (e : Order) → fillableIn f (waitingIn b) e ≡ true
-      collects-whole none collects e =
-          let kept = enters-kept f x (yes 6 asked (all-yes asked tt none)) collects in
-          subst (λ (g : TimeInForce). fillableIn g (waitingIn b) e ≡ true) (sym kept) refl
+      pub numberable : firstNo asked ≡ 0 → Numberable (r .participants) (b .codes) p
+      numberable none = answered.numberable r x m k b standing p t (orderAccess f) f none
 
-      module _ (none : firstNo asked ≡ 0) {e : Order} (entry : e ≡ entryWith (b .codes) p t) where
-        pub refuse-whole : fillableIn f (waitingIn b) e ≡ false → declines 15
+      -- while collecting, question 15 is not asked
+      pub collects-whole : firstNo asked ≡ 0 → isCollecting x ≡ true → fillableIn f (waitingIn b) (claimWith p t) ≡ true
+      collects-whole none collects =
+          let kept = enters-kept f x (yes 6 asked (all-yes asked tt none)) collects in
+          subst (λ (g : TimeInForce). fillableIn g (waitingIn b) (claimWith p t) ≡ true) (sym kept) refl
+
+      module _ (none : firstNo asked ≡ 0) where
+        pub refuse-whole : fillableIn f (waitingIn b) (claimWith p t) ≡ false → declines 15
         refuse-whole h =
             carries-refuse r x m k b v call (ready .sound) 15 (omega arith)
-            (from-four ∙ answered.no-whole r x m k b standing p t (orderAccess f) f none entry h)
+            (from-four ∙ answered.no-whole r x m k b standing p t (orderAccess f) f none h)
 
         -- question 15 is answered "yes"
-        module _ (whole : fillableIn f (waitingIn b) e ≡ true) where
+        module _ (whole : fillableIn f (waitingIn b) (claimWith p t) ≡ true) where
           clear : orderNo d p t (orderAccess f) f ≡ 0
-          clear = answered.no-none r x m k b standing p t (orderAccess f) f none entry whole
+          clear = answered.no-none r x m k b standing p t (orderAccess f) f none whole
 
           -- its security stands in the table
           pub in-table : t .security < maxSecurities
@@ -101,50 +105,52 @@ module _ (r : Rules) (x : Phase) (m k : List ℕ) (b : OrderBook) (ready : Ready
           abbrev registers : (m′ k′ v′ : List ℕ) → OrderBook → Type 0
           registers m′ k′ v′ b′ =
               Carries r x m k b v call m′ k′ v′
-              (record { answer = Done (b′ .codes) (b′ .filled) (b′ .left) (b′ .trades); phase = x; book = b′ })
+              (record { answer = Done (b′ .code) (b′ .filled) (b′ .left) (b′ .trades); phase = x; book = b′ })
 
-          -- while collecting it only waits
-          module _ (collects : isCollecting x ≡ true) where
-            waits : Admits r x (listing r (t .security)) b e m k
-            waits = answered.waits r x m k b standing p t f clear collects entry
+          -- the order as it enters
+          module _ {e : Order} (entry : e ≡ entryWith (r .participants) (b .codes) p t) where
+            -- while collecting it only waits
+            module _ (collects : isCollecting x ≡ true) where
+              waits : Admits r x (listing r (t .security)) b e m k
+              waits = answered.waits r x m k b standing p t f clear collects entry
 
-            pub appendable : Appendable (listing r (t .security)) b e m k
-            appendable = record { rules = r; phase = x; admits = waits }
+              pub appendable : Appendable (listing r (t .security)) b e m k
+              appendable = record { rules = r; phase = x; admits = waits }
 
-            pub order-waits : (m′ k′ : List ℕ) (b′ : OrderBook) → Appends (listing r (t .security)) b e m k m′ k′ b′
-                → registers m′ k′ v b′
-            unfolding effect placed
-            order-waits m′ k′ b′ appends =
-                let y = appends r x waits in
-                let same : effect d call ≡ placed d e =
-                ap (λ (z : Order). taken d z f) (sym entry) ∙ taken-waits d e f collects in
-                carries-accept r x m k b v call (ready .sound) m′ k′ v _ (from-four ∙ clear)
-                (y .answer ∙ sym (ap (λ (z : Result). z .answer) same))
-                (y .day ∙ sym (ap (λ (z : Result). z .day) same))
-                (sym (ap (λ (z : Result). written (z .trades) v) same))
+              pub order-waits : (m′ k′ : List ℕ) (b′ : OrderBook) → Appends (listing r (t .security)) b e m k m′ k′ b′
+                  → registers m′ k′ v b′
+              unfolding effect placed
+              order-waits m′ k′ b′ appends =
+                  let y = appends r x waits in
+                  let same : effect d call ≡ placed d e =
+                  ap (λ (z : Order). taken d z f) (sym entry) ∙ taken-waits d e f collects in
+                  carries-accept r x m k b v call (ready .sound) m′ k′ v _ (from-four ∙ clear)
+                  (y .answer ∙ sym (ap (λ (z : Result). z .answer) same))
+                  (y .day ∙ sym (ap (λ (z : Result). z .day) same))
+                  (sym (ap (λ (z : Result). written (z .trades) v) same))
 
-          -- otherwise it is matched
-          module _ (matched : isCollecting x ≡ false) where
-            opens : x ≡ Open
-            opens = answered.order-opens r x m k b standing p t f clear matched
+            -- otherwise it is matched
+            module _ (matched : isCollecting x ≡ false) where
+              opens : x ≡ Open
+              opens = answered.order-opens r x m k b standing p t f clear matched
 
-            accepts : Accepts r (listing r (t .security)) b e f m k
-            accepts = answered.accepts r x m k b standing p t (orderAccess f) f clear opens entry
+              accepts : Accepts r (listing r (t .security)) b e f m k
+              accepts = answered.accepts r x m k b standing p t (orderAccess f) f clear opens entry
 
-            pub enterable : Enterable (listing r (t .security)) b e f m k v
-            enterable = record { rules = r; accepts = accepts; lent = omega (arith, lent, few-lots .room) }
+              pub enterable : Enterable (listing r (t .security)) b e f m k v
+              enterable = record { rules = r; accepts = accepts; lent = omega (arith, lent, few-lots .room) }
 
-            effect-is : effect d call ≡ entered (openDay r m k b) e f
-            unfolding effect
-            effect-is =
-                ap (λ (z : Order). taken d z f) (sym entry) ∙ taken-matched d e f matched
-                ∙ ap (λ (z : Day). entered z e f) (answered.same-day r x m k b standing p t (orderAccess f) f clear opens)
+              effect-is : effect d call ≡ entered (openDay r m k b) e f
+              unfolding effect
+              effect-is =
+                  ap (λ (z : Order). taken d z f) (sym entry) ∙ taken-matched d e f matched
+                  ∙ ap (λ (z : Day). entered z e f) (answered.same-day r x m k b standing p t (orderAccess f) f clear opens)
 
-            pub order-enters : (m′ k′ v′ : List ℕ) (b′ : OrderBook)
-                → Enters (listing r (t .security)) b e f m k v m′ k′ v′ b′ → registers m′ k′ v′ b′
-            order-enters m′ k′ v′ b′ enters =
-                let y = enters r accepts in
-                carries-accept r x m k b v call (ready .sound) m′ k′ v′ _ (from-four ∙ clear)
-                (y .answer ∙ sym (ap (λ (z : Result). z .answer) effect-is))
-                (ap (λ (z : Phase). dayOf r z m′ k′ b′) opens ∙ y .day ∙ sym (ap (λ (z : Result). z .day) effect-is))
-                (y .list ∙ sym (ap (λ (z : Result). written (z .trades) v) effect-is))
+              pub order-enters : (m′ k′ v′ : List ℕ) (b′ : OrderBook)
+                  → Enters (listing r (t .security)) b e f m k v m′ k′ v′ b′ → registers m′ k′ v′ b′
+              order-enters m′ k′ v′ b′ enters =
+                  let y = enters r accepts in
+                  carries-accept r x m k b v call (ready .sound) m′ k′ v′ _ (from-four ∙ clear)
+                  (y .answer ∙ sym (ap (λ (z : Result). z .answer) effect-is))
+                  (ap (λ (z : Phase). dayOf r z m′ k′ b′) opens ∙ y .day ∙ sym (ap (λ (z : Result). z .day) effect-is))
+                  (y .list ∙ sym (ap (λ (z : Result). written (z .trades) v) effect-is))

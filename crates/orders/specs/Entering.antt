@@ -1,5 +1,5 @@
 -- The entry of an order on the parts of a day: its questions, what it asks, and what it does.
-use Prim.Native.Nat.{ℕ, _+_, _*_, _≤_, _<_}
+use Prim.Native.Nat.{ℕ, _*_, _≤_, _<_}
 use mathlib.Core.Path.{_≡_}
 use mathlib.Core.List.{List, [], _∷_}
 use mathlib.Core.Bool.{Bool, true}
@@ -16,7 +16,7 @@ use Rattle.market.specs.declared.Listing.{Listing}
 use Rattle.market.specs.declared.TimeInForce.{TimeInForce}
 use Rattle.market.specs.declared.TimeInForce.the-variants.{FillOrKill, ImmediateOrCancel, Kept}
 use Rattle.market.specs.declared.Turnover.{Turnover}
-use Rattle.market.specs.Limits.{columns, maxCodes, maxLots, maxWaiting, numbersPerTrade}
+use Rattle.market.specs.Limits.{columns, maxLots, maxOwnCodes, maxWaiting, numbersPerTrade}
 use Rattle.market.specs.Tests.{_<?_, _≤?_, known}
 use Rattle.market.specs.declared.Rules.{Rules}
 use Rattle.market.specs.Day.{Day}
@@ -31,8 +31,10 @@ use Rattle.market.specs.Questions.{Question, ask, entryQuestions, firstNo, orde
 use Rattle.market.specs.Entry.{entered}
 use Rattle.market.specs.Parts.{ListingOk, listing}
 use Rattle.market.proofs.Known.{RulesOk}
+use Rattle.market.proofs.Codes.{CodesWithin}
 use Rattle.invariant.specs.Standing.{Standing}
 use Rattle.matching.specs.Filling.{openDay}
+use Rattle.codes.specs.Numbers.{numberedWith}
 use Rattle.waiting.specs.Claims.{coveredBy}
 
 -- the first "no" of an order's questions from 4 on, and of a member's; a is the call that question 6 is asked of
@@ -42,16 +44,21 @@ orderNo d p m a k = firstNo (orderQuestions d p m a k)
 abbrev pub memberNo : Day → ℕ → Ticket → ℕ
 memberNo d p m = orderNo d p m Member FillOrKill
 
--- the order as it enters, where so many codes are given
-abbrev pub entryWith : ℕ → ℕ → Ticket → Order
-entryWith codes p m = record {
-  code = codes + 1;
+-- the order before it is numbered
+abbrev pub claimWith : ℕ → Ticket → Order
+claimWith p m = record {
+  code = 0;
   participant = p;
   side = m .side;
+  arrival = 0;
   security = m .security;
   lots = m .lots;
   kind = kind.Kept (m .price);
 }
+
+-- and as it enters, where these codes are given to n participants
+abbrev pub entryWith : ℕ → List ℕ → ℕ → Ticket → Order
+entryWith n codes p m = numberedWith n codes (claimWith p m)
 
 -- questions 12 and 15 on numbers and orders
 abbrev pub roomWith : TimeInForce → ℕ → Bool
@@ -78,15 +85,14 @@ earlyQuestions participants securities x p m a = openQuestions participants secu
 
 -- those that read listing and turnover of the order's security, its participant's positions, and counts
 abbrev pub laterQuestions : Listing → Turnover → ℕ → ℕ → ℕ → Ticket → TimeInForce → List ℕ → List ℕ → List Question
-laterQuestions l t count codes p m k money pieces =
+laterQuestions l t count own p m k money pieces =
     ask 8 (priceSound (l .row) (m .price)) ∷
     ask 12 (roomWith k count) ∷
-    ask 13 (codes <? maxCodes) ∷
-    ask 14 (coveredBy l t (entryWith codes p m) money pieces) ∷ []
+    ask 13 (own <? maxOwnCodes) ∷
+    ask 14 (coveredBy l t (claimWith p m) money pieces) ∷ []
 
 -- these can be asked
-pub record Askable (l : Listing) (codes p : ℕ) (m : Ticket) : Type 0 where
-  pub given : codes ≤ maxCodes
+pub record Askable (l : Listing) (p : ℕ) (m : Ticket) : Type 0 where
   pub step : 0 < l .row .step
   pub participant : p < columns
   pub security : m .security < columns
@@ -95,12 +101,12 @@ pub record Askable (l : Listing) (codes p : ℕ) (m : Ticket) : Type 0 where
   pub top : m .lots ≤ maxLots
 
 -- the rules are sound, and the codes given are within the limit
-pub record Known (r : Rules) (given : ℕ) : Type 0 where
+pub record Known (r : Rules) (given : List ℕ) : Type 0 where
   pub rules : RulesOk r
-  pub codes : given ≤ maxCodes
+  pub codes : CodesWithin (r .participants) given
 
 -- n is the first "no" of questions 4 to 14, on every day whose order book has this turnover, count and codes
-abbrev pub EntryNo : Rules → Phase → List Turnover → (count codes : ℕ) → (m k : List ℕ) → ℕ → Ticket → Access → TimeInForce → ℕ → Type 0
+abbrev pub EntryNo : Rules → Phase → List Turnover → ℕ → (codes m k : List ℕ) → ℕ → Ticket → Access → TimeInForce → ℕ → Type 0
 EntryNo r x t count codes m k p ticket a f n =
     (b : OrderBook) → b .turnover ≡ t → b .count ≡ count → b .codes ≡ codes
     → n ≡ firstNo (entryQuestions (dayOf r x m k b) p ticket a f)
@@ -123,7 +129,7 @@ pub record Enterable (l : Listing) (b : OrderBook) (e : Order) (f : TimeInForce)
 
 -- answer, day and lent list are those of a result x
 pub record EntersAs (x : Result) (r : Rules) (v m′ k′ v′ : List ℕ) (b′ : OrderBook) : Type 0 where
-  pub answer : Done (b′ .codes) (b′ .filled) (b′ .left) (b′ .trades) ≡ x .answer
+  pub answer : Done (b′ .code) (b′ .filled) (b′ .left) (b′ .trades) ≡ x .answer
   pub day : openDay r m′ k′ b′ ≡ x .day
   pub list : v′ ≡ written (x .trades) v
 

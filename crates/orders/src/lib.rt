@@ -2,14 +2,15 @@
 // `enter` then moves lent positions and hands the order book on. `listing` and `turnover` are those of the order's security.
 use amounts::price_sound;
 use amounts::within;
+use codes::numbered;
 use market::Access;
 use market::Answer;
 use market::Carried;
 use market::Kind;
 use market::LENT_AT_LEAST;
 use market::Listing;
-use market::MAX_CODES;
 use market::MAX_LOTS;
+use market::MAX_OWN_CODES;
 use market::MAX_WAITING;
 use market::Order;
 use market::OrderBook;
@@ -33,7 +34,7 @@ use waiting::leave;
 ghost use mathlib.Core.Path.{_≡_};
 ghost use mathlib.Core.List.{[]};
 ghost use Prim.Native.Nat.{_≤_};
-ghost use Rattle.market.specs.Limits.{maxCodes, maxWaiting};
+ghost use Rattle.market.specs.Limits.{maxWaiting};
 ghost use Rattle.market.specs.Waiting.{indexOf};
 ghost use Rattle.market.specs.Calls.{cancel as cancelCall, order as orderCall};
 ghost use Rattle.market.specs.Phases.{orderAccess};
@@ -41,7 +42,8 @@ ghost use Rattle.market.specs.Questions.{firstNo};
 ghost use Rattle.market.specs.Entry.{leftWaiting};
 ghost use Rattle.market.specs.Parts.{Carries, Ready};
 ghost use Rattle.matching.specs.Orders.{FewLots, waitingIn};
-ghost use Rattle.orders.specs.Entering.{Askable, Enterable, Enters, EntryNo, Known, entryWith, fillableIn, laterQuestions, openQuestions, roomWith};
+ghost use Rattle.codes.specs.Numbers.{Numberable};
+ghost use Rattle.orders.specs.Entering.{Askable, Enterable, Enters, EntryNo, Known, claimWith, entryWith, fillableIn, laterQuestions, openQuestions, roomWith};
 ghost use Rattle.orders.specs.Finding.{OfSecurity, foundAt, isOwn as ownOrder};
 
 // Where an order waits in the list, and its security.
@@ -50,21 +52,29 @@ pub enum Found {
     At(usize, u64),
 }
 
-// The order as it enters, under the next code.
-pub fn entry_of(codes: u64, participant: u64, member: Ticket) -> Order
-    requires { ⌜ codes ≤ maxCodes ⌝ }
-    ensures { λ r. ⌜ r ≡ entryWith codes participant member ⌝ }
+// The order before it is numbered, which suffices for questions 14 and 15: neither need nor fit reads code or arrival.
+pub fn claim_of(participant: u64, member: Ticket) -> Order
+    ensures { λ r. ⌜ r ≡ claimWith participant member ⌝ }
 {
     let side = member.side;
     let kind = Kind::Kept(member.price);
     Order {
-        code: codes + 1,
+        code: 0,
         participant,
         side,
+        arrival: 0,
         security: member.security,
         lots: member.lots,
         kind,
     }
+}
+
+// The order as it enters, under the next numbers.
+pub fn entry_of(participants: u64, codes: [u64; 16], participant: u64, member: Ticket) -> Order
+    requires { ⌜ Numberable participants codes participant ⌝ }
+    ensures { λ r. ⌜ r ≡ entryWith participants codes participant member ⌝ }
+{
+    numbered(participants, codes, claim_of(participant, member))
 }
 
 // Only a kept order may come to wait.
@@ -134,13 +144,13 @@ fn later_no<'a>(
     listing: Listing,
     turnover: Turnover,
     count: usize,
-    codes: u64,
+    own: u64,
     participant: u64,
     member: Ticket,
     force: TimeInForce,
 ) -> u64
-    requires { ⌜ Askable listing codes participant member ⌝ }
-    ensures { λ r. ⌜ r ≡ firstNo (laterQuestions listing turnover count codes participant member force (now (money .entry)) (now (pieces .entry))) ⌝ }
+    requires { ⌜ Askable listing participant member ⌝ }
+    ensures { λ r. ⌜ r ≡ firstNo (laterQuestions listing turnover count own participant member force (now (money .entry)) (now (pieces .entry))) ⌝ }
 {
     if !price_sound(listing.row, member.price) {
         return 8;
@@ -148,11 +158,11 @@ fn later_no<'a>(
     if !has_room(count, force) {
         return 12;
     }
-    if MAX_CODES <= codes {
+    if MAX_OWN_CODES <= own {
         return 13;
     }
-    let entry = entry_of(codes, participant, member);
-    if !covers(money, pieces, listing, turnover, entry) {
+    let claim = claim_of(participant, member);
+    if !covers(money, pieces, listing, turnover, claim) {
         return 14;
     }
     0
@@ -165,7 +175,7 @@ pub fn order_no<'a>(
     phase: Phase,
     turnovers: [Turnover; 16],
     count: usize,
-    codes: u64,
+    codes: [u64; 16],
     money: &'a [u64; 544],
     pieces: &'a [u64; 544],
     participant: u64,
@@ -191,6 +201,7 @@ pub fn order_no<'a>(
     let table = rules.table;
     let row = table[security];
     let turnover = turnovers[security];
+    let own = codes[participant as usize];
     let listing = Listing {
         row,
         rate: rules.rate,
@@ -201,7 +212,7 @@ pub fn order_no<'a>(
         listing,
         turnover,
         count,
-        codes,
+        own,
         participant,
         ticket,
         force,
@@ -275,12 +286,13 @@ pub fn order(
         return declined(b, phase, 2);
     }
     let turnovers = b.turnover;
+    let codes = b.codes;
     let number = order_no(
         rules,
         phase,
         turnovers,
         b.count,
-        b.codes,
+        codes,
         &*money,
         &*pieces,
         participant,
@@ -291,10 +303,10 @@ pub fn order(
     if 0 < number {
         return declined(b, phase, number);
     }
-    let entry = entry_of(b.codes, participant, ticket);
-    if !is_fillable(b, force, entry) {
+    if !is_fillable(b, force, claim_of(participant, ticket)) {
         return declined(b, phase, 15);
     }
+    let entry = entry_of(rules.participants, codes, participant, ticket);
     let table = rules.table;
     let row = table[ticket.security as usize];
     let listing = Listing {

@@ -77,7 +77,7 @@ module _ {b₀ b : OrderBook} {i j n earlier place : ℕ} (h : Taking b₀ b i j
       → Moved (b .orders) w place (b .count - 1) k → b .count - 1 ≤ k → (b′ : OrderBook) → b′ .orders ≡ w
       → b′ .count ≡ b .count - 1 → Same b b′ → Taken b place n b′
   taken-filled filled m last b′ orders count same = record {
-    off = off-filled b place n (h .inside) (h .room) filled m last b′ orders count (same .turnover);
+    off = off-filled b place n (h .inside) (h .room) filled m last b′ orders count (same .codes) (same .turnover);
     same = same;
     fewer = omega arith;
     one = omega arith;
@@ -87,7 +87,7 @@ module _ {b₀ b : OrderBook} {i j n earlier place : ℕ} (h : Taking b₀ b i j
       → o ≡ withLots (orderAt (b .orders) place) ((orderAt (b .orders) place) .lots - n) → (b′ : OrderBook)
       → b′ .orders ≡ set (b .orders) place o → b′ .count ≡ b .count → Same b b′ → Taken b place n b′
   taken-less more o less b′ orders count same = record {
-    off = off-less b place n (h .inside) (h .room) more o less b′ orders count (same .turnover);
+    off = off-less b place n (h .inside) (h .room) more o less b′ orders count (same .codes) (same .turnover);
     same = same;
     fewer = omega arith;
     one = omega arith;

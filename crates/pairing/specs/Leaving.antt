@@ -19,6 +19,7 @@ emptied b = record {
   filled = b .filled;
   left = b .left;
   trades = b .trades;
+  code = b .code;
 }
 
 -- in some phase, the day of these parts is sound

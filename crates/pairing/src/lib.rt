@@ -48,6 +48,7 @@ fn counterparty(side: Side, security: u64, limit: Kind) -> Order
         code: 0,
         participant: 0,
         side,
+        arrival: 0,
         security,
         lots: 0,
         kind: limit,
@@ -105,7 +106,7 @@ pub fn pair_all(
     let buyer = counterparty(Side::Buy, security, limit);
     let mut made = book.trades as usize;
     'pairs: loop {
-        // The list is by rising code, so the first of equal prices is the oldest.
+        // The list is by rising arrival, so the first of equal prices is the oldest.
         let count = book.count;
         let mut buys = Found::Nothing;
         let mut sells = Found::Nothing;

@@ -21,7 +21,7 @@ abbrev pub turnoverRoom : ℕ
 turnoverRoom = wordedRoom 8 3
 
 abbrev pub codesRoom : ℕ
-codesRoom = wordedRoom 5 1
+codesRoom = wordedRoom 5 2
 
 abbrev pub sideRoom : ℕ
 sideRoom = 2
@@ -51,7 +51,7 @@ recordsRoom = dateRoom + maxDeals * dealRoom
 -- the lines of the end but for the market's account and the records
 abbrev pub dayRoom : ℕ
 dayRoom =
-    positionsRoom + phaseRoom + maxSecurities * turnoverRoom + codesRoom + maxWaiting * waitsRoom
+    positionsRoom + phaseRoom + maxSecurities * turnoverRoom + maxParticipants * codesRoom + maxWaiting * waitsRoom
 
 -- all of them
 abbrev pub endRoom : ℕ
@@ -59,7 +59,7 @@ endRoom = dayRoom + maxCurrencies * accountRoom + recordsRoom
 
 -- what a command, with the lines that SHOW prints, or the end take at most
 abbrev pub room : ℕ
-room = 65536
+room = 81920
 
 -- counts within their limits
 pub record Counts (participants currencies securities count : ℕ) : Type 0 where

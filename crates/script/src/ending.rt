@@ -21,8 +21,8 @@ ghost use mathlib.Core.Path.{_≡_};
 ghost use mathlib.Core.Bool.{true};
 ghost use Prim.Native.Nat.{_+_, _*_, _≤_};
 ghost use lib.ListN.{length};
-ghost use Rattle.market.specs.Limits.{maxCurrencies, maxSecurities, maxWaiting};
-ghost use Rattle.script.specs.Rooms.{Adds, Counts, accountRoom, dayRoom, endRoom, kindRoom, phaseRoom, sideRoom, turnoverRoom, waitsRoom};
+ghost use Rattle.market.specs.Limits.{maxCurrencies, maxParticipants, maxSecurities, maxWaiting};
+ghost use Rattle.script.specs.Rooms.{Adds, Counts, accountRoom, codesRoom, dayRoom, endRoom, kindRoom, phaseRoom, sideRoom, turnoverRoom, waitsRoom};
 
 fn put_phase(out: &mut [u8], at: usize, phase: Phase) -> usize
     requires { ⌜ at + phaseRoom ≤ length (now out) ⌝ }
@@ -157,6 +157,29 @@ fn put_accounts(out: &mut [u8], at: usize, money: [u64; 544], currencies: u64) -
     end
 }
 
+// Codes given to a participant, and to each of the first `participants`.
+fn put_count(out: &mut [u8], at: usize, participant: u64, codes: u64) -> usize
+    requires { ⌜ at + codesRoom ≤ length (now out) ⌝ }
+    ensures { λ r. ⌜ Adds codesRoom (now (out .entry)) at (now (out .exit)) r ⌝ }
+{
+    let numbers = [participant, codes];
+    put_worded(out, at, b"CODES", &numbers)
+}
+
+fn put_codes(out: &mut [u8], at: usize, codes: [u64; 16], participants: u64) -> usize
+    requires { ⌜ participants ≤ maxParticipants ⌝ }
+    requires { ⌜ at + maxParticipants * codesRoom ≤ length (now out) ⌝ }
+    ensures { λ r. ⌜ Adds (maxParticipants * codesRoom) (now (out .entry)) at (now (out .exit)) r ⌝ }
+{
+    let mut end = at;
+    let mut i: u64 = 0;
+    while i < participants {
+        end = put_count(out, end, i, codes[i as usize]);
+        i += 1;
+    }
+    end
+}
+
 // Positions, phase, turnovers, codes given and waiting orders.
 fn put_day(out: &mut [u8], at: usize, s: State) -> usize
     requires { ⌜ Counts (s .participants) (s .currencies) (s .securities) (s .count) ⌝ }
@@ -167,7 +190,7 @@ fn put_day(out: &mut [u8], at: usize, s: State) -> usize
     let pieces = s.pieces;
     let phase = s.phase;
     let turnovers = s.turnover;
-    let codes = [s.codes];
+    let codes = s.codes;
     let orders = s.orders;
     let a = put_positions(
         out,
@@ -180,7 +203,7 @@ fn put_day(out: &mut [u8], at: usize, s: State) -> usize
     );
     let b = put_phase(out, a, phase);
     let c = put_turnovers(out, b, turnovers, s.securities);
-    let d = put_worded(out, c, b"CODES", &codes);
+    let d = put_codes(out, c, codes, s.participants);
     put_orders(out, d, orders, s.count)
 }
 

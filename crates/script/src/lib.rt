@@ -40,7 +40,7 @@ const MAX_LENT: u64 = 4096;
 const MAX_TRADES: u64 = 136;
 
 // What a command, or the lines of the end, take of the buffer at most.
-pub const ROOM: usize = 65536;
+pub const ROOM: usize = 81920;
 
 // How far a script is played: the state, the place where the text goes on and the number of its line there, how much of
 // the buffer is filled, how many numbers are lent, and whether all is printed.

@@ -14,7 +14,7 @@ use Rattle.market.specs.declared.Phase.the-variants as phase
 use Rattle.market.specs.declared.Rules.{Rules}
 use Rattle.market.specs.declared.Session.{Session}
 use Rattle.market.specs.declared.Session.the-variants.{Closing, Collecting}
-use Rattle.market.specs.Limits.{lentAtLeast}
+use Rattle.market.specs.Limits.{lentAtLeast, maxParticipants}
 use Rattle.market.specs.Day.{Day, withPhase}
 use Rattle.market.specs.View.{dayOf}
 use Rattle.market.specs.Phases.{admits}
@@ -27,7 +27,7 @@ use Rattle.market.specs.Pairing.{endResult, pairsFrom}
 use Rattle.market.specs.Step.{effect}
 use Rattle.market.specs.Parts.{Carries, Ready, endOf, startOf}
 use Rattle.market.proofs.Phases.{auction-phase, session-phase}
-use Rattle.market.proofs.Codes.{numbered-none}
+use Rattle.market.proofs.Codes.{CodesWithin, numbered-none}
 use Rattle.market.proofs.Parts.{carries-accept, carries-refuse}
 use Rattle.invariant.specs.Standing.{Standing}
 use Rattle.invariant.proofs.Sound.{ready-standing}
@@ -58,7 +58,7 @@ ends-phase Collecting x e = auction-phase x e
 -- the questions of a start, and that all orders leave: before an auction none waits
 start-asks : (z : Session) (d : Day) (n : ℕ)
     → firstNo (questions d n (startOf z))
-    ≡ firstNo (ask 6 (admits (d .phase) (startAccess z)) ∷ ask 21 (startsAt z (d .codes)) ∷ [])
+    ≡ firstNo (ask 6 (admits (d .phase) (startAccess z)) ∷ ask 21 (startsAt z (given d)) ∷ [])
 unfolding questions
 start-asks Closing d n = refl
 start-asks Collecting d n = refl
@@ -67,13 +67,13 @@ none-leave : (d : Day) → d .waiting ≡ [] → d ≡ leaveFirst (length (d .wa
 unfolding leaveFirst
 none-leave d e = ap (λ (w : List Order). leaveFirst (length w) d) (sym e)
 
-start-effect : (z : Session) (d : Day) → Standing d → startsAt z (d .codes) ≡ true
+start-effect : (z : Session) (d : Day) → Standing d → startsAt z (given d) ≡ true
     → effect d (startOf z) ≡ zeros (allLeave d (phaseOf z))
 unfolding effect allLeave
 start-effect Closing d st e = refl
 start-effect Collecting d st e =
     ap (λ (w : Day). zeros (withPhase w phase.Collecting))
-    (none-leave d (numbered-none (given d) (codesOf d) (d .waiting) (st .codes) (eqb-true (d .codes) 0 e)))
+    (none-leave d (numbered-none (given d) (codesOf d) (d .waiting) (st .codes) (eqb-true (given d) 0 e)))
 
 module _ {r : Rules} {x : Phase} {m k : List ℕ} {b : OrderBook} (g : Ready r x m k b) where
   abbrev d : Day
@@ -81,6 +81,10 @@ module _ {r : Rules} {x : Phase} {m k : List ℕ} {b : OrderBook} (g : Ready r x
 
   pub leavable : Leavable r b m k
   leavable = record { phase = x; standing = ready-standing g }
+
+  -- all codes given can be added up
+  pub summable : (r .participants ≤ maxParticipants) × CodesWithin (r .participants) (b .codes)
+  summable = let st = ready-standing g in (st .backed .rulesOk .participants, st .limit)
 
   -- the start of a session
   module _ (z : Session) where
@@ -90,12 +94,12 @@ module _ {r : Rules} {x : Phase} {m k : List ℕ} {b : OrderBook} (g : Ready r x
         carries-refuse r x m k b [] (startOf z) (g .sound) 6 (omega arith) (start-asks z d 0 ∙ rw e)
 
     module _ (admitted : admits x (startAccess z) ≡ true) where
-      pub start-late : startsAt z (b .codes) ≡ false
+      pub start-late : startsAt z (given d) ≡ false
           → Carries r x m k b [] (startOf z) m k [] (record { answer = Refused 21 0; phase = x; book = b })
       start-late e =
           carries-refuse r x m k b [] (startOf z) (g .sound) 21 (omega arith) (start-asks z d 0 ∙ rw (admitted, e))
 
-      pub started : {m′ k′ : List ℕ} → startsAt z (b .codes) ≡ true → AllLeft r b m k m′ k′
+      pub started : {m′ k′ : List ℕ} → startsAt z (given d) ≡ true → AllLeft r b m k m′ k′
           → Carries r x m k b [] (startOf z) m′ k′ []
           (record { answer = Done 0 0 0 0; phase = phaseOf z; book = emptied b })
       started {m′} {k′} e left =

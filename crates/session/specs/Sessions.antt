@@ -69,6 +69,7 @@ cleared b = record {
   filled = 0;
   left = 0;
   trades = 0;
+  code = b .code;
 }
 
 -- the day of these parts is sound in the session's phase, and there is room for a trade with each waiting order

@@ -3,14 +3,16 @@
 use amounts::closing_price;
 use amounts::within;
 use auction::price;
+use codes::given;
+use codes::numbered;
 use market::Access;
 use market::Answer;
 use market::Carried;
 use market::Kind;
 use market::LENT_AT_LEAST;
 use market::Listing;
-use market::MAX_CODES;
 use market::MAX_LOTS;
+use market::MAX_OWN_CODES;
 use market::MAX_WAITING;
 use market::Order;
 use market::OrderBook;
@@ -26,18 +28,19 @@ use pairing::pair_all;
 use phases::admits;
 use waiting::append;
 use waiting::covers;
-ghost use Prim.Native.Nat.{_≤_, _<_};
+ghost use Prim.Native.Nat.{_<_};
 ghost use mathlib.Core.Path.{_≡_};
 ghost use mathlib.Core.List.{[]};
-ghost use Rattle.market.specs.Limits.{maxCodes, maxSecurities};
+ghost use Rattle.market.specs.Limits.{maxSecurities};
 ghost use Rattle.market.specs.Calls.{closingOrder};
 ghost use Rattle.market.specs.Phases.{admits as admitsCall};
 ghost use Rattle.market.specs.Questions.{firstNo};
 ghost use Rattle.market.specs.Parts.{Carries, Ready, endOf, startOf};
 ghost use Rattle.matching.specs.Orders.{FewLots, waitingIn};
+ghost use Rattle.codes.specs.Numbers.{Numberable};
 ghost use Rattle.waiting.specs.Claims.{Reckonable};
 ghost use Rattle.session.specs.Sessions.{Endable, Ends, PairsAll, endAccess, nextPhase, phaseOf, startAccess, startsAt, termsWith};
-ghost use Rattle.session.specs.Asking.{Askable, ClosingNo, closingWith, earlyClosing, laterClosing};
+ghost use Rattle.session.specs.Asking.{Askable, ClosingNo, closingClaim, closingWith, earlyClosing, laterClosing};
 
 // Which orders meet, and at which price.
 struct Terms {
@@ -208,11 +211,11 @@ fn later_closing_no<'a>(
     listing: Listing,
     turnover: Turnover,
     count: usize,
-    codes: u64,
+    own: u64,
     o: Order,
 ) -> u64
     requires { ⌜ Reckonable listing turnover o ⌝ }
-    ensures { λ r. ⌜ r ≡ firstNo (laterClosing listing turnover count codes o (now (money .entry)) (now (pieces .entry))) ⌝ }
+    ensures { λ r. ⌜ r ≡ firstNo (laterClosing listing turnover count own o (now (money .entry)) (now (pieces .entry))) ⌝ }
 {
     if turnover.pieces == 0 {
         return 11;
@@ -220,7 +223,7 @@ fn later_closing_no<'a>(
     if MAX_WAITING as usize <= count {
         return 12;
     }
-    if MAX_CODES <= codes {
+    if MAX_OWN_CODES <= own {
         return 13;
     }
     if !covers(money, pieces, listing, turnover, o) {
@@ -229,19 +232,38 @@ fn later_closing_no<'a>(
     0
 }
 
-// A closing order as it enters, under the next code: it has no price.
-pub fn closing_order(codes: u64, participant: u64, side: Side, security: u64, lots: u64) -> Order
-    requires { ⌜ codes ≤ maxCodes ⌝ }
-    ensures { λ r. ⌜ r ≡ closingWith codes participant side security lots ⌝ }
+// A closing order before it is numbered, which suffices for question 14: no need reads code or arrival. It has no price.
+fn closing_claim(participant: u64, side: Side, security: u64, lots: u64) -> Order
+    ensures { λ r. ⌜ r ≡ closingClaim participant side security lots ⌝ }
 {
     Order {
-        code: codes + 1,
+        code: 0,
         participant,
         side,
+        arrival: 0,
         security,
         lots,
         kind: Kind::Closing,
     }
+}
+
+// A closing order as it enters, under the next numbers.
+pub fn closing_order(
+    participants: u64,
+    codes: [u64; 16],
+    participant: u64,
+    side: Side,
+    security: u64,
+    lots: u64,
+) -> Order
+    requires { ⌜ Numberable participants codes participant ⌝ }
+    ensures { λ r. ⌜ r ≡ closingWith participants codes participant side security lots ⌝ }
+{
+    numbered(
+        participants,
+        codes,
+        closing_claim(participant, side, security, lots),
+    )
 }
 
 // The first "no" of a closing order's questions, which read no waiting order; 0 where there is none.
@@ -250,7 +272,7 @@ pub fn closing_no<'a>(
     phase: Phase,
     turnovers: [Turnover; 16],
     count: usize,
-    codes: u64,
+    codes: [u64; 16],
     money: &'a [u64; 544],
     pieces: &'a [u64; 544],
     participant: u64,
@@ -276,12 +298,13 @@ pub fn closing_no<'a>(
     let table = rules.table;
     let row = table[listed];
     let turnover = turnovers[listed];
+    let own = codes[participant as usize];
     let listing = Listing {
         row,
         rate: rules.rate,
     };
-    let o = closing_order(codes, participant, side, security, lots);
-    later_closing_no(money, pieces, listing, turnover, count, codes, o)
+    let o = closing_claim(participant, side, security, lots);
+    later_closing_no(money, pieces, listing, turnover, count, own, o)
 }
 
 // A session begins, and all waiting orders come off. Before an auction none waits, since no code has been given.
@@ -299,7 +322,8 @@ pub fn start(
     if !admits_start(phase, session) {
         return declined(b, phase, 6);
     }
-    if !starts_at(session, b.codes) {
+    let codes = b.codes;
+    if !starts_at(session, given(rules.participants, codes)) {
         return declined(b, phase, 21);
     }
     let mut book = b;
@@ -328,12 +352,13 @@ pub fn enter_closing_order(
     ensures { λ r. ⌜ Carries rules phase (now (money .entry)) (now (pieces .entry)) b [] (closingOrder participant side security lots) (now (money .exit)) (now (pieces .exit)) [] r ⌝ }
 {
     let turnovers = b.turnover;
+    let codes = b.codes;
     let number = closing_no(
         rules,
         phase,
         turnovers,
         b.count,
-        b.codes,
+        codes,
         &*money,
         &*pieces,
         participant,
@@ -344,7 +369,7 @@ pub fn enter_closing_order(
     if 0 < number {
         return declined(b, phase, number);
     }
-    let o = closing_order(b.codes, participant, side, security, lots);
+    let o = closing_order(rules.participants, codes, participant, side, security, lots);
     let table = rules.table;
     let row = table[security as usize];
     let listing = Listing {

@@ -18,7 +18,7 @@ use Rattle.market.specs.declared.Asset.the-variants.{Money, Pieces}
 use Rattle.market.specs.Day.{Day, currencyOf, row, turnoverAt}
 use Rattle.market.specs.View.{view}
 use Rattle.market.specs.Parts.{ListingOk, listing}
-use Rattle.market.specs.Codes.{given, numbered, rising}
+use Rattle.market.specs.Codes.{codesSound, given, numbered, ownRising, rising}
 use Rattle.market.specs.Needs.{limitOf}
 use Rattle.market.specs.Sound.{countsSound, kindSound, lotsSound, orderSound, rowSound, rulesSound, securitySound}
 use Rattle.market.specs.Sound.{sound, turnoverSound}
@@ -32,6 +32,7 @@ pub record Orderly (d : Day) : Type 0 where
   pub count : length (d .waiting) ≤ maxWaiting
   pub participants : 0 < d .rules .participants
   pub rules : RulesOk (d .rules)
+  pub codes : codesSound d ≡ true
   pub turnovers : (s : ℕ) → s < d .rules .securities → turnoverSound (given d) (turnoverAt (d .turnover) s) ≡ true
 
 pub orderly-holds : (d : Day) → orderly d ≡ true → Orderly d
@@ -46,6 +47,7 @@ orderly-holds d e =
       count = leb-true (length (d .waiting)) maxWaiting (a .0);
       participants = within-low 1 maxParticipants (d .rules .participants) ((and-true (counts .0)) .0);
       rules = rules-ok (d .rules) (both (counts .0) (both (table .0) (rate .0)));
+      codes = codes .0;
       turnovers = below-all (d .rules .securities) (λ s. turnoverSound (given d) (turnoverAt (d .turnover) s))
           (codes .1);
     }
@@ -55,6 +57,12 @@ pub few-securities : (participants currencies securities : ℕ) → countsSound 
 unfolding countsSound
 few-securities participants currencies securities e =
     within-high 1 maxSecurities securities ((and-true ((and-true e) .1)) .1)
+
+pub few-participants : (participants currencies securities : ℕ) → countsSound participants currencies securities ≡ true
+    → participants ≤ maxParticipants
+unfolding countsSound
+few-participants participants currencies securities e =
+    within-high 1 maxParticipants participants ((and-true e) .0)
 
 -- the parts of "sound" in the order of the code
 pub parts : (d : Day) → sound d ≡ orderly d and waitingSound d and assetSound Money d and assetSound Pieces d
@@ -93,20 +101,24 @@ parts d = same _ _ there back
         both (both (counts .0) (both (table .0) (rate .0))) (both (both (codes .0) (orders .1)) (both (count .0) (both (orders .0)
         (both (money .0) (both (pieces .0) (both (money .1) (both (pieces .1) (codes .1))))))))
 
--- the test of the waiting orders, where one of its two parts fails and where none does
+-- the test of the waiting orders, where one of its three parts fails and where none does
 module _ (d : Day) (needs : List ℕ) where
   pub order-fails : false ≡ allOf (orderSound d) (d .waiting) → Checked d false needs
   unfolding waitingSound _and_
   order-fails e = record { right = rw (sym e); added = λ t. never t }
 
-  pub code-fails : rising 0 (given d) (d .waiting) ≡ false → Checked d false needs
+  pub arrival-fails : rising 0 (given d) (d .waiting) ≡ false → Checked d false needs
+  unfolding waitingSound _and_
+  arrival-fails e = record { right = rw e (sym (and-none (allOf (orderSound d) (d .waiting)))); added = λ t. never t }
+
+  pub own-fails : false ≡ ownRising d → Checked d false needs
   unfolding waitingSound
-  code-fails e = record { right = rw e (sym (and-none (allOf (orderSound d) (d .waiting)))); added = λ t. never t }
+  own-fails e = record { right = rw (sym e, and-none, and-none); added = λ t. never t }
 
   pub orders-hold : {answer : Bool} → true ≡ allOf (orderSound d) (d .waiting)
-      → rising 0 (given d) (d .waiting) ≡ answer → HoldsNeeds d needs → Checked d answer needs
+      → rising 0 (given d) (d .waiting) ≡ true → ownRising d ≡ answer → HoldsNeeds d needs → Checked d answer needs
   unfolding waitingSound _and_
-  orders-hold e r h = record { right = rw (sym e) (sym r); added = λ t. h }
+  orders-hold e r o h = record { right = rw (sym e, r) (sym o); added = λ t. h }
 
 -- where a day is orderly, so it is as far as its orders are asked about
 row-wide : (currencies : ℕ) (l : Security) → currencies ≤ maxCurrencies → securitySound currencies l ≡ true
@@ -145,6 +157,11 @@ pub known-security : (d : Day) (o : Order) → o .security < d .rules .securitie
     and kindSound (d .phase) (row (d .rules) (o .security)) (turnoverAt (d .turnover) (o .security)) (o .kind)
 unfolding orderSound _and_
 known-security d o h = rw (lt-ltb _ _ h)
+
+-- a sound order is of a known participant
+pub order-known : (d : Day) (o : Order) → orderSound d o ≡ true → o .participant < d .rules .participants
+unfolding orderSound
+order-known d o e = ltb-true (o .participant) (d .rules .participants) ((and-true e) .0)
 
 -- a waiting order whose need can be reckoned
 pub record Reckonable (r : Rules) (t : List Turnover) (o : Order) : Type 0 where

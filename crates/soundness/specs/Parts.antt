@@ -19,7 +19,7 @@ use Rattle.market.specs.Day.{Day, ifMoney, row, cell, position, turnoverAt}
 use Rattle.market.specs.View.{firstOrders}
 use Rattle.market.specs.Day.{withMoney, withPieces}
 use Rattle.market.specs.View.{view}
-use Rattle.market.specs.Codes.{codesSound, given, rising}
+use Rattle.market.specs.Codes.{codesSound, given, ownRising, rising}
 use Rattle.market.specs.Positions.{totalAt}
 use Rattle.market.specs.Sound.{blockedSound, countsSound, needsAt, orderSound, rateSound, securitySound, totalsSound}
 use Rattle.market.specs.Sound.{turnoverSound}
@@ -40,7 +40,7 @@ orderly d =
 
 -- the waiting orders of an orderly day
 unfoldable pub waitingSound : Day → Bool
-waitingSound d = allOf (orderSound d) (d .waiting) and rising 0 (given d) (d .waiting)
+waitingSound d = allOf (orderSound d) (d .waiting) and rising 0 (given d) (d .waiting) and ownRising d
 
 -- the positions in an asset
 unfoldable pub assetSound : Asset → Day → Bool
@@ -69,7 +69,7 @@ abbrev pub HoldsNeeds : Day → List ℕ → Type 0
 HoldsNeeds d l = (x : Asset) (j : ℕ) → j < cells → getD l (needCell x j) 0 ≡ needsAt x d j
 
 -- the day as far as its orders are asked about: neither its positions count, nor how many of the currencies it has
-abbrev pub ordersDay : ℕ → ℕ → ℕ → ℕ → Phase → ℕ → List Security → List Turnover → List Order → Day
+abbrev pub ordersDay : ℕ → ℕ → List ℕ → ℕ → Phase → ℕ → List Security → List Turnover → List Order → Day
 ordersDay participants securities codes rate phase count table turnover orders = record {
   rules = record {
     participants = participants;

@@ -2,18 +2,20 @@
 use amounts::account_in;
 use amounts::cell_of;
 use amounts::from_u16;
+use amounts::from_u32;
 use amounts::need_of;
 use amounts::price_sound;
 use amounts::within;
+use codes::given;
 use market::Asset;
 use market::Kind;
 use market::Listing;
-use market::MAX_CODES;
 use market::MAX_CURRENCIES;
 use market::MAX_LOT;
 use market::MAX_LOTS;
 use market::MAX_NOMINAL;
 use market::MAX_OFFER_RATE;
+use market::MAX_OWN_CODES;
 use market::MAX_PARTICIPANTS;
 use market::MAX_PIECES;
 use market::MAX_PRICE;
@@ -38,8 +40,8 @@ ghost use mathlib.Core.Path.{_≡_};
 ghost use mathlib.Core.Bool.{true};
 ghost use Prim.Native.Nat.{_+_, _<_, _≤_};
 ghost use lib.ListN.{getD, replicate};
-ghost use Rattle.market.specs.Limits.{columns as allColumns, maxCodes, maxParticipants, maxSecurities, cells};
-ghost use Rattle.market.specs.Tests.{_and_, allBelow, known};
+ghost use Rattle.market.specs.Limits.{columns as allColumns, maxCodes, maxOwnCodes, maxParticipants, maxSecurities, cells};
+ghost use Rattle.market.specs.Tests.{_and_, _≤?_, allBelow, known};
 ghost use Rattle.market.specs.Day.{noSecurity, turnoverAt};
 ghost use Rattle.market.specs.View.{view};
 ghost use Rattle.market.specs.Sound.{countsSound, kindSound, lotsSound, nominalSound, rowSound, securitySound, sound};
@@ -138,6 +140,41 @@ fn turnovers_sound(codes: u64, securities: u64, turnovers: [Turnover; 16]) -> bo
     true
 }
 
+// Is each participant's count of codes within the limit?
+fn codes_sound(participants: u64, codes: [u64; 16]) -> bool
+    requires { ⌜ participants ≤ maxParticipants ⌝ }
+    ensures { λ r. ⌜ r ≡ allBelow participants (λ p. getD codes p 0 ≤? maxOwnCodes) ⌝ }
+{
+    let lines = participants as usize;
+    let mut i: usize = 0;
+    while i < lines {
+        let own = codes[i];
+        if MAX_OWN_CODES < own {
+            return false;
+        }
+        i += 1;
+    }
+    true
+}
+
+// Was each participant's last code given to him?
+fn lasts_given(participants: u64, lasts: [u64; 16], codes: [u64; 16]) -> bool
+    requires { ⌜ participants ≤ maxParticipants ⌝ }
+    ensures { λ r. ⌜ r ≡ allBelow participants (λ p. getD lasts p 0 ≤? getD codes p 0) ⌝ }
+{
+    let lines = participants as usize;
+    let mut i: usize = 0;
+    while i < lines {
+        let last = lasts[i];
+        let own = codes[i];
+        if own < last {
+            return false;
+        }
+        i += 1;
+    }
+    true
+}
+
 // May a repurchase offer wait in this phase, at this price, rate and term?
 fn offer_sound(phase: Phase, row: Security, price: u64, rate: u64, term: u64) -> bool
     requires { ⌜ 0 < row .step ⌝ }
@@ -212,12 +249,13 @@ fn need_cell(side: Side, participant: u64, currency: u64, security: u64) -> usiz
     }
 }
 
-// Is each waiting order sound, and do their codes rise from 1, up to the codes given at most? What each needs is added at
-// its cell in the same pass, so that the orders are copied and read once.
+// Is each waiting order sound, do their arrivals rise from 1, up to all codes given at most, and each participant's codes from
+// 1, up to his count at most? What each needs is added at its cell in the same pass, so that the orders are copied and read
+// once.
 fn orders_sound(
     participants: u64,
     securities: u64,
-    codes: u64,
+    codes: [u64; 16],
     rate: u64,
     phase: Phase,
     count: usize,
@@ -229,11 +267,13 @@ fn orders_sound(
     requires { ⌜ (orderly (ordersDay participants securities codes rate phase count table turnovers orders) ≡ true) × (now needs ≡ replicate (cells + cells) 0) ⌝ }
     ensures { λ r. ⌜ Checked (ordersDay participants securities codes rate phase count table turnovers orders) r (now (needs .exit)) ⌝ }
 {
+    let mut lasts = [0u64; 16];
     let mut last: u64 = 0;
     let mut i: usize = 0;
     while i < count {
         let order = orders[i];
-        if order.code <= last {
+        let arrival = from_u32(order.arrival);
+        if arrival <= last {
             return false;
         }
         if securities <= order.security {
@@ -245,14 +285,22 @@ fn orders_sound(
         if !order_sound(participants, phase, row, turnover, order) {
             return false;
         }
+        let owner = order.participant as usize;
+        if order.code <= lasts[owner] {
+            return false;
+        }
+        lasts[owner] = order.code;
         let side = order.side;
         let at = need_cell(side, order.participant, row.currency, order.security);
         let listing = Listing { row, rate };
         needs[at] = needs[at] + need_of(listing, turnover, order);
-        last = order.code;
+        last = arrival;
         i += 1;
     }
-    last <= codes
+    if given(participants, codes) < last {
+        return false;
+    }
+    lasts_given(participants, lasts, codes)
 }
 
 // Is what is blocked in each column what is needed, and the column's total, with the market's account in money, within
@@ -307,6 +355,7 @@ fn is_orderly(s: State) -> bool
 {
     let table = s.table;
     let turnovers = s.turnover;
+    let codes = s.codes;
     if MAX_WAITING < s.count as u64 {
         return false;
     }
@@ -319,10 +368,10 @@ fn is_orderly(s: State) -> bool
     if MAX_RATE < s.rate {
         return false;
     }
-    if MAX_CODES < s.codes {
+    if !codes_sound(s.participants, codes) {
         return false;
     }
-    turnovers_sound(s.codes, s.securities, turnovers)
+    turnovers_sound(given(s.participants, codes), s.securities, turnovers)
 }
 
 // Is the state sound with these positions in place of its own? A call that works on a copy of the positions lends it, and
@@ -334,6 +383,7 @@ pub fn lent_sound<'a>(s: State, money: &'a [u64; 544], pieces: &'a [u64; 544]) -
     let table = s.table;
     let turnovers = s.turnover;
     let orders = s.orders;
+    let codes = s.codes;
     let mut needs = [0u64; 544];
     if !is_orderly(s) {
         return false;
@@ -341,7 +391,7 @@ pub fn lent_sound<'a>(s: State, money: &'a [u64; 544], pieces: &'a [u64; 544]) -
     if !orders_sound(
         s.participants,
         s.securities,
-        s.codes,
+        codes,
         s.rate,
         phase,
         s.count,

@@ -1,6 +1,9 @@
-// Cases of the trading day that no script can say, run on the engine: states made by hand, what lies past the counts, a million
-// codes, numbers too long for a line, and what a call leaves as it was.
+// Cases of the trading day that no script can say, run on the engine: states made by hand, what lies past the counts, 62,500 codes
+// of a member, numbers too long for a line, and what a call leaves as it was.
+mod own_codes;
+
 use case_states::after;
+use case_states::arrived;
 use case_states::asked;
 use case_states::asked_closing;
 use case_states::asked_collecting;
@@ -8,6 +11,8 @@ use case_states::asked_kind;
 use case_states::bond;
 use case_states::bought;
 use case_states::buy;
+use case_states::code_and_arrival;
+use case_states::counts;
 use case_states::day;
 use case_states::funded;
 use case_states::in_phase;
@@ -21,6 +26,8 @@ use case_states::sell_order;
 use case_states::table;
 use case_states::traded;
 use case_states::waiting;
+use case_states::with_codes;
+use case_states::with_counts_past;
 use case_states::with_money;
 use case_states::with_pieces;
 use case_states::with_unread;
@@ -43,6 +50,8 @@ use market::State;
 use market::Ticket;
 use market::TimeInForce;
 use market::Turnover;
+use own_codes::codes_given;
+use own_codes::sound_codes;
 
 fn line_past_the_count() {
     let mut lines = table();
@@ -118,14 +127,15 @@ fn nominals() {
 }
 
 fn asked_turnover(label: &[u8], codes: u64, pieces: u64, value: u64) {
-    let mut s = day();
-    s.codes = codes;
+    let mut s = with_codes(day(), 1, codes);
     s.turnover[1] = Turnover { pieces, value };
     asked(label, s);
 }
 
 fn unsound_turnover() {
-    asked_turnover(b"1000001 codes: 1", 1000001, 0, 0);
+    asked_turnover(b"62500 codes of one participant, sound", 62500, 0, 0);
+    asked_turnover(b"62501: 1", 62501, 0, 0);
+    asked_turnover(b"the largest count: 1", 18446744073709551615, 0, 0);
     asked_turnover(
         b"more pieces traded than one code can: 1",
         1,
@@ -136,9 +146,10 @@ fn unsound_turnover() {
     asked_turnover(b"more than 1000000 a piece: 1", 1, 10, 10000001);
 }
 
+// Its arrival, 3, is sound whatever the rest.
 fn asked_order(label: &[u8], code: u64, participant: u64, security: u64, lots: u64) {
     let o = sell_order(code, participant, security, lots, Kind::Kept(95));
-    asked(label, waiting(o));
+    asked(label, waiting(arrived(o, 3)));
 }
 
 fn order_names() {
@@ -169,13 +180,13 @@ fn asked_percent(label: &[u8], price: u64) {
 }
 
 fn asked_percent_buy(label: &[u8], blocked: u64) {
-    let mut s = with_money(day(), 0, 0, blocked);
+    let mut s = with_codes(with_money(day(), 0, 0, blocked), 0, 4);
     s.table[0] = bond(100001);
-    s.codes = 4;
     s.orders[0] = Order {
         code: 3,
         participant: 0,
         side: Side::Buy,
+        arrival: 3,
         security: 0,
         lots: 10,
         kind: Kind::Kept(9950),
@@ -218,19 +229,18 @@ fn kinds_while_collecting() {
     asked(b"a kept order when closed: 1", s);
 }
 
-// Two orders of 5 lots, the first of code 3.
-fn asked_list(label: &[u8], second: u64, count: usize) {
+// Two orders of 5 lots, of codes 3 and 4.
+fn asked_list(label: &[u8], count: usize) {
     let mut s = waiting(sell_order(3, 1, 0, 5, Kind::Kept(95)));
-    s.orders[1] = sell_order(second, 1, 0, 5, Kind::Kept(95));
+    s.orders[1] = sell_order(4, 1, 0, 5, Kind::Kept(95));
     s.count = count;
     asked(label, s);
 }
 
 fn lists() {
-    asked_list(b"codes that do not rise: 1", 3, 2);
-    asked_list(b"two orders that share what is blocked, sound", 4, 2);
-    asked_list(b"129 orders: 1", 4, 129);
-    asked_list(b"far too many orders: 1", 4, 18446744073709551615);
+    asked_list(b"two orders that share what is blocked, sound", 2);
+    asked_list(b"129 orders: 1", 129);
+    asked_list(b"far too many orders: 1", 18446744073709551615);
 }
 
 fn blocked_pieces() {
@@ -326,6 +336,7 @@ fn unread() {
     );
     money(b"an unknown currency's position stays", s, 2);
     last_deal(b"a deal past the count stays", s);
+    counts(b"counts past the participants stay", s);
 }
 
 // A refusal hands back the very state, sound or not.
@@ -333,6 +344,7 @@ fn handed_back() {
     let s = after(b"amount 0: 7", increase_money(with_unread(), 0, 0, 0));
     money(b"what is not read is handed back", s, 32);
     last_deal(b"a deal past the count, too", s);
+    counts(b"counts past the participants, too", s);
     let s = with_money(day(), 16, 5, 1);
     let s = after(b"money blocked for no order: 1", increase_money(s, 1, 0, 1));
     money(b"and handed back", s, 16);
@@ -369,15 +381,10 @@ fn priorities() {
     bought_at_once(b"then the dearer one", s, 6);
 }
 
-fn order_codes() {
+fn unsound_order() {
     let mut s = funded();
     s.participants = 0;
     bought(b"unsound: 1", s);
-    let mut s = funded();
-    s.codes = 1000000;
-    bought(b"1000000 codes given: 13", s);
-    s.codes = 999999;
-    bought(b"the last code", s);
 }
 
 fn linked_reserves() -> State {
@@ -451,9 +458,32 @@ fn group_codes() {
     let mut s = linked_day();
     s.currencies = 0;
     linked_pair(b"unsound: 1", s);
-    let mut s = linked_day();
-    s.codes = 999999;
-    linked_pair(b"codes for one member only: 13, place 2", s);
+    let s = linked_day();
+    linked_pair(b"the last two codes", with_codes(s, 0, 62498));
+    linked_pair(
+        b"codes for one member only: 13, place 2",
+        with_codes(s, 0, 62499),
+    );
+    linked_pair(b"for none: 13, place 1", with_codes(s, 0, 62500));
+    linked_pair(
+        b"nor any pieces: 13, place 1",
+        with_codes(funded(), 0, 62500),
+    );
+    linked_pair(
+        b"a group beside counts past the participants",
+        with_counts_past(s, 18446744073709551615),
+    );
+}
+
+// Participant 0 has had 7 codes, participant 1 all of his; both of his orders, codes 1 and 2, are met.
+fn group_among_others() {
+    let mut trades = [7u64; 1088];
+    let s = with_codes(with_codes(linked_day(), 0, 7), 1, 62500);
+    let o = enter_group(s, 0, 2, sold_and_bought(100), &mut trades);
+    let s = after(b"a group's codes follow its participant's", o);
+    numbers(b"its first trade", &trades, 0);
+    numbers(b"its second trade", &trades, 8);
+    counts(b"codes given", s);
 }
 
 // Trades 10 at 95 and 5 at 100: the closing price is 97. Participant 0 still buys 5 at 100.
@@ -468,13 +498,29 @@ fn closing() -> State {
     o.state
 }
 
+// A closing buy of participant 0.
+fn closing_buy(label: &[u8], s: State, security: u64, lots: u64) -> State {
+    after(label, enter_closing_order(s, 0, Side::Buy, security, lots))
+}
+
 fn closing_codes() {
-    let mut s = closing();
-    s.codes = 1000000;
-    after(
-        b"1000000 codes given: 13",
-        enter_closing_order(s, 0, Side::Buy, 0, 1),
-    );
+    let s = with_codes(closing(), 0, 62500);
+    closing_buy(b"62500 codes given: 13", s, 0, 1);
+    closing_buy(b"for more than his money: 13", s, 0, 10000);
+    closing_buy(b"where Q is 0: 11", s, 1, 1);
+    closing_buy(b"beside 128 orders: 12", with_codes(full(), 0, 62500), 0, 1);
+    let o = enter_closing_order(s, 1, Side::Sell, 0, 1);
+    let s = after(b"another participant", o);
+    code_and_arrival(b"his code and arrival", s);
+}
+
+fn last_closing_codes() {
+    let s = with_codes(closing(), 0, 62499);
+    let s = closing_buy(b"the last code", s, 0, 1);
+    closing_buy(b"one more: 13", s, 0, 1);
+    let s = with_counts_past(closing(), 18446744073709551615);
+    let s = closing_buy(b"beside counts past the participants", s, 0, 1);
+    counts(b"codes given", s);
 }
 
 fn unsound_session() {
@@ -489,11 +535,13 @@ fn unsound_session() {
     after(b"end: 1", end_session(s, &mut trades));
 }
 
-// A closing buy of one lot where T is this and Q 9,999,990,000,000: twice T takes 65 bits.
+// A closing buy of one lot where T is this and Q 9,999,990,000,000, which 16 participants' codes allow: twice T takes 65 bits.
 fn closing_near_the_limit(label: &[u8], traded: u64) {
     let o = increase_money(closing(), 0, 0, 10000000);
     let mut s = o.state;
-    s.codes = 999999;
+    s.participants = 16;
+    s.codes = [62500; 16];
+    s.codes[0] = 62499;
     s.turnover[0] = Turnover {
         pieces: 9999990000000,
         value: traded,
@@ -520,8 +568,7 @@ fn largest_closing() -> State {
     let o = increase_money(o.state, 0, 0, 505000000000000);
     let o = increase_pieces(o.state, 1, 0, 10000000);
     let o = start_closing(o.state);
-    let mut s = o.state;
-    s.codes = 1;
+    let mut s = with_codes(o.state, 0, 1);
     s.turnover[0] = Turnover {
         pieces: 10000000,
         value: 10000000000000,
@@ -555,12 +602,17 @@ fn collecting() -> State {
 }
 
 fn collecting_codes() {
-    let mut s = funded();
-    s.codes = 1000000;
-    after(b"1000000 codes given: 21", start_collecting(s));
-    let mut s = collecting();
-    s.codes = 1000000;
-    after(b"1000000 codes given: 13", order(s, 0, buy(0, 100, 1)));
+    after(
+        b"codes given to the first participant: 21",
+        start_collecting(with_codes(funded(), 0, 62500)),
+    );
+    after(
+        b"a code given to the last one: 21",
+        start_collecting(with_codes(funded(), 1, 1)),
+    );
+    let s = with_codes(collecting(), 0, 62500);
+    after(b"62500 codes given: 13", order(s, 0, buy(0, 100, 1)));
+    after(b"another participant", order(s, 1, sell(0, 100, 1)));
 }
 
 // Sell 10 at 95 and buy 20 at 100 are collected, where Q is 10 and T 950.
@@ -637,6 +689,7 @@ fn states() {
     kinds_while_closing();
     kinds_while_collecting();
     lists();
+    sound_codes();
     blocked_pieces();
     unsound_money();
     rates();
@@ -664,9 +717,12 @@ fn main() {
     largest_number();
     states();
     left_as_it_was();
-    order_codes();
+    unsound_order();
+    codes_given();
     group_codes();
+    group_among_others();
     closing_codes();
+    last_closing_codes();
     closing_prices();
     largest_trade();
     unsound_session();

@@ -10,9 +10,10 @@ use Rattle.market.specs.declared.OrderBook.{OrderBook}
 use Rattle.market.specs.declared.Phase.{Phase}
 use Rattle.market.specs.declared.Rules.{Rules}
 use Rattle.market.specs.declared.Listing.{Listing}
-use Rattle.market.specs.Limits.{maxSecurities, maxWaiting}
+use Rattle.market.specs.Limits.{maxParticipants, maxSecurities, maxWaiting}
 use Rattle.market.specs.Day.{Day, turnoverAt, withCodes, withWaiting}
 use Rattle.market.specs.View.{dayOf}
+use Rattle.market.specs.Codes.{giveCode}
 use Rattle.market.specs.Positions.{block, blockFor}
 use Rattle.market.specs.Entry.{admitted, placed}
 use Rattle.market.proofs.View.{first-append, first-length}
@@ -28,6 +29,9 @@ module _ {r : Rules} {x : Phase} {l : Listing} {b : OrderBook} {o : Order} {m k 
 
   pub append-security : o .security < maxSecurities
   append-security = omega (arith, a .placeable .order .security, a .standing .backed .rulesOk .securities)
+
+  pub append-participant : o .participant < maxParticipants
+  append-participant = omega (arith, a .placeable .order .participant, a .standing .backed .rulesOk .participants)
 
   pub append-room : b .count < maxWaiting
   append-room =
@@ -50,19 +54,21 @@ module _ {r : Rules} {x : Phase} {l : Listing} {b : OrderBook} {o : Order} {m k 
       (record {
         orders = set (b .orders) (b .count) o;
         count = b .count + 1;
-        codes = o .code;
+        codes = set (b .codes) (o .participant) (o .code);
         turnover = b .turnover;
         filled = 0;
         left = o .lots;
         trades = 0;
+        code = o .code;
       })
   unfolding placed admitted blockFor
   append-done {m′} {k′} inside em ek = record {
     answer = refl;
     day =
-        ap (λ (w : List Order). withWaiting (withCodes (dayOf r x m′ k′ b) (o .code)) w)
+        ap (λ (w : List Order). withWaiting (withCodes (dayOf r x m′ k′ b) (set (b .codes) (o .participant) (o .code))) w)
         (first-append (b .count) (b .orders) o inside)
-        ∙ ap (λ (c : ℕ). withWaiting (withCodes (dayOf r x m′ k′ b) c) (waitingIn b ++ (o ∷ []))) (a .placeable .code)
+        ∙ ap (λ (c : ℕ). withWaiting (withCodes (dayOf r x m′ k′ b) (set (b .codes) (o .participant) c)) (waitingIn b ++ (o ∷ [])))
+        (a .placeable .code)
         ∙ ap (λ (e : Day). withWaiting e (waitingIn b ++ (o ∷ [])))
-        (day-moved (withCodes d (b .codes + 1)) l o (a .listing) block m′ k′ em ek);
+        (day-moved (giveCode d (o .participant)) l o (a .listing) block m′ k′ em ek);
   }

@@ -28,7 +28,7 @@ pub record Appendable (l : Listing) (b : OrderBook) (o : Order) (m k : List ℕ)
 
 -- answer and day are those of a result
 pub record AppendedAs (z : Result) (r : Rules) (x : Phase) (m′ k′ : List ℕ) (b′ : OrderBook) : Type 0 where
-  pub answer : Done (b′ .codes) (b′ .filled) (b′ .left) (b′ .trades) ≡ z .answer
+  pub answer : Done (b′ .code) (b′ .filled) (b′ .left) (b′ .trades) ≡ z .answer
   pub day : dayOf r x m′ k′ b′ ≡ z .day
 
 -- under all such rules, in all such phases, the definition's

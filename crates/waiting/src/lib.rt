@@ -120,9 +120,10 @@ pub fn append(
     let count = book.count;
     book.orders[count] = o;
     book.count = count + 1;
-    book.codes = o.code;
+    book.codes[o.participant as usize] = o.code;
     book.filled = 0;
     book.left = o.lots;
     book.trades = 0;
+    book.code = o.code;
     book
 }

@@ -294,8 +294,7 @@ fn bench_offers(runner: &mut Runner) -> Result<(), String> {
     for waiting in [0, 32, 127] {
         let sells = "OFFER,1,L,0,200,1,500,7\n".repeat(waiting);
         let setup = [&setup(0), &sells[..]].concat();
-        let codes = waiting + 1..=waiting + OFFERS;
-        let offers: String = codes
+        let offers: String = (1..=OFFERS)
             .map(|code| format!("OFFER,0,B,0,200,1,500,8\nX,0,{code}\n"))
             .collect();
         let times = runner.measure_more(SCRIPT_SUBJECTS, script_output, &setup, &offers, 1)?;

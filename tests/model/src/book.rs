@@ -29,9 +29,34 @@ pub struct Book {
     market: Vec<i128>,
     traded: Vec<BookedTrades>,
     phase: Phase,
-    waiting: Vec<WaitingOrder>,
+    waiting: Vec<BookedOrder>,
     date: u64,
     deals: Vec<Deal>,
+}
+
+/// An order as the book has it, without an arrival number, which it isn't fed:
+/// its orders stand as they came. Participant and code name one together.
+#[derive(Clone, Copy, PartialEq, Eq, Debug)]
+pub struct BookedOrder {
+    pub participant: usize,
+    pub code: u64,
+    pub side: Side,
+    pub security: usize,
+    pub lots: u64,
+    pub kind: WaitingKind,
+}
+
+impl From<&WaitingOrder> for BookedOrder {
+    fn from(order: &WaitingOrder) -> BookedOrder {
+        BookedOrder {
+            participant: order.participant,
+            code: order.code,
+            side: order.side,
+            security: order.security,
+            lots: order.lots,
+            kind: order.kind,
+        }
+    }
 }
 
 /// Q and T of one security.
@@ -50,7 +75,7 @@ pub fn expect(holds: bool, fault: impl FnOnce() -> String) -> Checked {
 }
 
 /// An index that the book knows, from a number that it was fed.
-fn known(number: u64, count: usize, name: &str) -> Result<usize, String> {
+pub fn known(number: u64, count: usize, name: &str) -> Result<usize, String> {
     usize::try_from(number)
         .ok()
         .filter(|&index| index < count)
@@ -130,9 +155,9 @@ impl Book {
     }
 
     fn keep(&mut self, entry: &Entry, code: u64) -> Checked {
-        let order = WaitingOrder {
-            code,
+        let order = BookedOrder {
             participant: known(entry.participant, self.participants, "participant")?,
+            code,
             side: entry.side,
             security: known(entry.security, self.securities.len(), "security")?,
             lots: entry.lots,
@@ -143,9 +168,9 @@ impl Book {
     }
 
     fn keep_closing(&mut self, entry: &ClosingEntry, code: u64) -> Checked {
-        let order = WaitingOrder {
-            code,
+        let order = BookedOrder {
             participant: known(entry.participant, self.participants, "participant")?,
+            code,
             side: entry.side,
             security: known(entry.security, self.securities.len(), "security")?,
             lots: entry.lots,
@@ -191,7 +216,7 @@ impl Book {
 
     /// Takes a trade's lots off the order, where it waits.
     fn take_lots(&mut self, side: Side, participant: usize, code: u64, lots: u64) -> Checked {
-        let waits = |order: &WaitingOrder| {
+        let waits = |order: &BookedOrder| {
             order.side == side && order.participant == participant && order.code == code
         };
         let Some(place) = self.waiting.iter().position(waits) else {
@@ -199,7 +224,7 @@ impl Book {
         };
         let order = &mut self.waiting[place];
         expect(lots <= order.lots, || {
-            format!("order {code} traded more lots than it has")
+            format!("order {code} of {participant} traded more lots than it has")
         })?;
         order.lots -= lots;
         if order.lots == 0 {
@@ -281,9 +306,28 @@ impl Book {
         self.waiting.len()
     }
 
+    /// Whether a trade takes this waiting order before one that only came later,
+    /// but has a lower code of another participant's.
+    pub fn precedes_lower_code(&self, side: Side, participant: u64, code: u64) -> bool {
+        let named = |order: &BookedOrder| {
+            order.side == side && order.participant as u64 == participant && order.code == code
+        };
+        let Some(place) = self.waiting.iter().position(named) else {
+            return false;
+        };
+        let older = self.waiting[place];
+        let younger = &self.waiting[place + 1..];
+        younger.iter().any(|order| {
+            order.participant != older.participant
+                && order.code < older.code
+                && stand_equal(order, &older)
+        })
+    }
+
     pub fn compare(&self, engine: &Engine) -> Checked {
         self.compare_phase(engine.phase())?;
-        self.compare_waiting(engine.waiting())?;
+        let waiting: Vec<BookedOrder> = engine.waiting().iter().map(BookedOrder::from).collect();
+        self.compare_waiting(&waiting)?;
         self.check_uncrossed()?;
         for security in 0..self.securities.len() {
             self.compare_traded(security, engine.traded(security))?;
@@ -302,7 +346,7 @@ impl Book {
         })
     }
 
-    pub fn compare_waiting(&self, waiting: &[WaitingOrder]) -> Checked {
+    pub fn compare_waiting(&self, waiting: &[BookedOrder]) -> Checked {
         expect(self.waiting == waiting, || {
             format!("waiting: book {:?}, state {waiting:?}", self.waiting)
         })
@@ -432,6 +476,16 @@ impl Book {
         let halves = 2 * traded.turnover + traded.pieces;
         halves.checked_div(2 * traded.pieces).unwrap_or(0)
     }
+}
+
+/// Only arrival decides between them. Of offers the lots must be equal too, as
+/// the counter of one isn't the other's.
+fn stand_equal(order: &BookedOrder, other: &BookedOrder) -> bool {
+    let same_lots = order.lots == other.lots || !matches!(order.kind, WaitingKind::Offer(_));
+    order.side == other.side
+        && order.security == other.security
+        && order.kind == other.kind
+        && same_lots
 }
 
 /// Of a value in prices: money already, or hundredths of a percent of the

@@ -70,8 +70,11 @@ pub enum WaitingKind {
     Offer(Terms),
 }
 
+/// Its code is one of its participant's own. The arrival number is shared by all
+/// and decides wherever an order is to be the older one; nobody is told it.
 #[derive(Clone, Copy, PartialEq, Eq, Debug)]
 pub struct WaitingOrder {
+    pub arrival: u64,
     pub code: u64,
     pub participant: usize,
     pub side: Side,

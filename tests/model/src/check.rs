@@ -1,7 +1,7 @@
 //! Runs the model on a day file or a script with the book beside it.
 
 use crate::book::{expect, Book, Checked};
-use crate::calls::{Answer, Call, Opening, Trade};
+use crate::calls::{Answer, Call, Opening, Side, Trade};
 use crate::dayfile::{run_text, Observer};
 use crate::engine::Engine;
 use crate::printed::check_printed;
@@ -24,6 +24,7 @@ impl Observer for Checker<'_> {
         self.line = line;
         self.tally.count_call(call, answer);
         self.count_second_part(call, answer);
+        self.count_by_arrival(call, trades);
         if let Some(book) = &mut self.book {
             let fed = book.feed(call, answer, trades);
             self.note(fed);
@@ -44,6 +45,24 @@ impl Checker<'_> {
         if let (Call::SecondPart { place }, Ok(_), Some(book)) = (call, answer, &self.book) {
             let days_late = book.days_late(*place).unwrap_or(0);
             self.tally.count_second_part(book.phase(), days_late);
+        }
+    }
+
+    /// The same; each side of a trade that waits counts for itself.
+    fn count_by_arrival(&mut self, call: &Call, trades: &[Trade]) {
+        let Some(book) = &self.book else {
+            return;
+        };
+        for trade in trades {
+            let sides = [
+                (Side::Buy, trade.buyer, trade.buy_code),
+                (Side::Sell, trade.seller, trade.sell_code),
+            ];
+            for (side, participant, code) in sides {
+                if book.precedes_lower_code(side, participant, code) {
+                    self.tally.count_by_arrival(call, book.phase());
+                }
+            }
         }
     }
 

@@ -36,7 +36,8 @@ pub const MONEY_LIMIT: u64 = 1_000_000_000_000_000;
 pub const PIECES_LIMIT: u64 = 1_000_000_000_000;
 pub const RATE_LIMIT: u64 = 1_000;
 pub const WAITING_LIMIT: usize = 128;
-pub const CODE_LIMIT: u64 = 1_000_000;
+/// Of each participant, a day.
+pub const CODE_LIMIT: u64 = 62_500;
 pub const GROUP_SIZES: RangeInclusive<usize> = 2..=8;
 pub const DEAL_LIMIT: usize = 64;
 /// Of repurchase deals: hundredths of a percent a year, days, and the first sum.
@@ -82,9 +83,9 @@ struct Market {
     rate: u64,
 }
 
-/// What the calls change. Waiting orders stand by rising code, open deals the
+/// What the calls change. Waiting orders stand by rising arrival, open deals the
 /// oldest first. The account is the market's own, which the fees go to, in each
-/// currency.
+/// currency. Codes are counted for each participant.
 #[derive(Clone, PartialEq, Eq, Debug)]
 struct State {
     money: [[Position; CURRENCY_LIMIT]; PARTICIPANT_LIMIT],
@@ -92,7 +93,7 @@ struct State {
     account: [u64; CURRENCY_LIMIT],
     traded: [Traded; SECURITY_LIMIT],
     waiting: Vec<WaitingOrder>,
-    codes_given: u64,
+    codes_given: [u64; PARTICIPANT_LIMIT],
     phase: Phase,
     date: u64,
     deals: Vec<Deal>,
@@ -204,8 +205,8 @@ impl Engine {
         &self.state.waiting
     }
 
-    pub fn codes_given(&self) -> u64 {
-        self.state.codes_given
+    pub fn codes_given(&self, participant: usize) -> u64 {
+        self.state.codes_given[participant]
     }
 
     pub fn phase(&self) -> Phase {
@@ -229,7 +230,7 @@ impl State {
             account: Default::default(),
             traded: Default::default(),
             waiting: Vec::with_capacity(WAITING_LIMIT),
-            codes_given: 0,
+            codes_given: Default::default(),
             phase: Phase::Open,
             date,
             deals: Vec::with_capacity(DEAL_LIMIT),
@@ -333,11 +334,9 @@ impl Engine {
     pub fn cancel(&mut self, participant: u64, code: u64) -> Answer {
         self.ask_soundness()?;
         let participant = self.known_participant(participant)?;
-        let waiting = &self.state.waiting;
+        let mut waiting = self.state.waiting.iter();
         let place = waiting
-            .binary_search_by_key(&code, |order| order.code)
-            .ok()
-            .filter(|&place| waiting[place].participant == participant)
+            .position(|order| order.participant == participant && order.code == code)
             .ok_or(refused(refusal::NO_SUCH_ORDER))?;
         let order = self.state.waiting.remove(place);
         self.unblock(&order);
@@ -364,11 +363,12 @@ impl Engine {
             })
     }
 
-    /// Whatever became of its order, a code that was given counts.
+    /// Whatever became of its order, a code that was given counts, whosoever it
+    /// is.
     pub fn start_collecting(&mut self) -> Answer {
         self.ask_soundness()?;
         ensure(self.state.phase == Phase::Open, refusal::PHASE)?;
-        ensure(self.state.codes_given == 0, refusal::CODE_GIVEN)?;
+        ensure(self.all_codes_given() == 0, refusal::CODE_GIVEN)?;
         self.state.phase = Phase::Collecting;
         Ok(Done::default())
     }
@@ -397,7 +397,7 @@ impl Engine {
         self.ask_soundness()?;
         let order = self.question_closing(entry)?;
         self.block(&order);
-        self.state.codes_given = order.code;
+        self.give_code(&order);
         self.state.waiting.push(order);
         Ok(Done {
             code: order.code,

@@ -11,7 +11,7 @@ const END: [(u8, PrintLines); 9] = [
     (0, print_pieces),
     (1, print_phase),
     (1, print_turnovers),
-    (1, print_codes),
+    (7, print_codes),
     (1, print_waiting),
     (3, print_market),
     (6, print_date),
@@ -111,7 +111,10 @@ fn print_turnovers(engine: &Engine, out: &mut Vec<u8>) {
 }
 
 fn print_codes(engine: &Engine, out: &mut Vec<u8>) {
-    print_line(out, b"CODES", &[engine.codes_given()]);
+    for participant in 0..engine.participants() {
+        let numbers = [participant as u64, engine.codes_given(participant)];
+        print_line(out, b"CODES", &numbers);
+    }
 }
 
 fn print_waiting(engine: &Engine, out: &mut Vec<u8>) {

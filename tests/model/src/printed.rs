@@ -1,10 +1,9 @@
 //! Feeds the book from a day file or a script and what a program printed for
 //! it, so that any engine's output is checked without a look at its state.
 
-use crate::book::{expect, Book, Checked};
+use crate::book::{expect, known, Book, BookedOrder, Checked};
 use crate::calls::{
     refusal, refused, Answer, Call, Done, Opening, Phase, Refused, Side, Terms, Trade, WaitingKind,
-    WaitingOrder,
 };
 use crate::engine::{Engine, Position, Traded, LIST_LENGTH};
 use crate::reader::{number, Command, LineReader, TEXT_LIMIT};
@@ -81,8 +80,8 @@ impl<'output, const COUNT: usize> Line<'output, COUNT> {
     }
 
     /// What waits, of the kind that follows the other fields.
-    fn waiting_order(&self, kind: fn(&Self, usize) -> Option<WaitingKind>) -> Option<WaitingOrder> {
-        Some(WaitingOrder {
+    fn waiting_order(&self, kind: fn(&Self, usize) -> Option<WaitingKind>) -> Option<BookedOrder> {
+        Some(BookedOrder {
             participant: self.index(0)?,
             code: self.number(1)?,
             side: self.side(2)?,
@@ -185,6 +184,14 @@ impl<'output> Printed<'output> {
         Ok(Traded { pieces, turnover })
     }
 
+    fn codes(&mut self, participant: u64) -> Result<u64, String> {
+        let [printed, codes] = self.numbers("CODES")?;
+        expect(printed == participant, || {
+            format!("codes of {printed}, due of {participant}")
+        })?;
+        Ok(codes)
+    }
+
     fn account(&mut self, currency: usize) -> Result<u64, String> {
         let [printed, amount] = self.numbers("MARKET")?;
         expect(printed == currency as u64, || {
@@ -194,7 +201,7 @@ impl<'output> Printed<'output> {
     }
 
     /// An order, or an offer, whose line has two fields more.
-    fn waiting_order(&mut self) -> Result<WaitingOrder, String> {
+    fn waiting_order(&mut self) -> Result<BookedOrder, String> {
         let whole = self.whole()?;
         match Line::<9>::new(whole, "WAITS") {
             Ok(line) => line.read(|line| line.waiting_order(Line::offer_kind)),
@@ -220,11 +227,11 @@ fn fields<'line, const COUNT: usize>(
     parts.next().is_none().then_some(fields)
 }
 
-/// The book, and what it doesn't hold: codes given, and numbers lent for the
-/// trades of the next call.
+/// The book, and what it doesn't hold: the codes given to each participant, and
+/// numbers lent for the trades of the next call.
 struct Fed {
     book: Book,
-    codes_given: u64,
+    codes_given: Vec<u64>,
     lent: u64,
 }
 
@@ -259,9 +266,10 @@ fn check_day<const LEVEL: u8>(
     reader: &mut LineReader<LEVEL>,
     printed: &mut Printed,
 ) -> Checked {
+    let book = Book::new(opening);
     let mut fed = Fed {
-        book: Book::new(opening),
-        codes_given: 0,
+        codes_given: vec![0; book.participants()],
+        book,
         lent: LIST_LENGTH,
     };
     let heading = printed.answer(1)?;
@@ -315,22 +323,29 @@ impl Fed {
         self.book.feed(call, answer, trades)
     }
 
-    /// An accepted order or offer takes the next code, a group one for each
-    /// member; a new day begins without any.
+    /// An accepted order or offer takes its participant's next code, a group one
+    /// for each member; a new day begins without any.
     fn take_codes(&mut self, call: &Call, code: u64) -> Checked {
-        let taken = match call {
-            Call::Enter(_) | Call::EnterClosing(_) | Call::EnterOffer(_) => 1,
-            Call::Group { members, .. } => members.len() as u64,
+        let (participant, taken) = match call {
+            Call::Enter(entry) => (entry.participant, 1),
+            Call::EnterClosing(entry) => (entry.participant, 1),
+            Call::EnterOffer(offer) => (offer.participant, 1),
+            Call::Group {
+                participant,
+                members,
+            } => (*participant, members.len() as u64),
             Call::NewDay { .. } => {
-                self.codes_given = 0;
+                self.codes_given.fill(0);
                 return Ok(());
             }
             _ => return Ok(()),
         };
-        expect(code == self.codes_given + 1, || {
-            format!("code {code} after {}", self.codes_given)
+        let participant = known(participant, self.codes_given.len(), "participant")?;
+        let codes_given = &mut self.codes_given[participant];
+        expect(code == *codes_given + 1, || {
+            format!("code {code} of {participant} after {codes_given}")
         })?;
-        self.codes_given += taken;
+        *codes_given += taken;
         Ok(())
     }
 }
@@ -343,7 +358,7 @@ const END: [(u8, CheckLines); 9] = [
     (0, check_pieces),
     (1, check_phase),
     (1, check_turnovers),
-    (1, check_codes),
+    (7, check_codes),
     (1, check_waiting),
     (3, check_market),
     (6, check_date),
@@ -397,15 +412,18 @@ fn check_turnovers(fed: &Fed, printed: &mut Printed) -> Checked {
 }
 
 fn check_codes(fed: &Fed, printed: &mut Printed) -> Checked {
-    let [codes] = printed.numbers("CODES")?;
-    expect(codes == fed.codes_given, || {
-        format!("{codes} codes, but {} were answered", fed.codes_given)
-    })
+    for (participant, codes_given) in (0..).zip(&fed.codes_given) {
+        let codes = printed.codes(participant)?;
+        expect(codes == *codes_given, || {
+            format!("{codes} codes of {participant}, but {codes_given} were answered")
+        })?;
+    }
+    Ok(())
 }
 
 fn check_waiting(fed: &Fed, printed: &mut Printed) -> Checked {
     let count = fed.book.orders_waiting();
-    let waiting: Result<Vec<WaitingOrder>, String> =
+    let waiting: Result<Vec<BookedOrder>, String> =
         (0..count).map(|_| printed.waiting_order()).collect();
     fed.book.compare_waiting(&waiting?)?;
     fed.book.check_uncrossed()

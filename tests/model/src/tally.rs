@@ -3,7 +3,7 @@
 use std::collections::BTreeMap;
 use std::fmt;
 
-use crate::calls::{Answer, Call, Phase};
+use crate::calls::{refusal, Answer, Call, Phase};
 
 const MOST_REFUSALS: usize = 27;
 
@@ -21,6 +21,13 @@ pub struct Tally {
     pub auctions: u64,
     pub auctions_trading: u64,
     pub auction_trades: u64,
+    /// Cancellations that took an order off, and those that found none (16).
+    pub cancels_accepted: u64,
+    pub cancels_of_none: u64,
+    /// Waiting orders that traded before one at the same price with a lower code
+    /// of another participant, since they had arrived earlier; by the phase, or
+    /// of offers.
+    by_arrival: BTreeMap<String, u64>,
     /// Accepted offers that were met; the others wait.
     pub offers_met: u64,
     /// Answers to the words of repurchase deals, by the refusal's number.
@@ -43,6 +50,10 @@ pub struct Tally {
     pub odd_sums: u64,
 }
 
+fn phase_word(phase: Phase) -> String {
+    format!("{phase:?}").to_lowercase()
+}
+
 impl Tally {
     pub fn refusals(&self, number: usize) -> u64 {
         self.refusals.get(number).copied().unwrap_or(0)
@@ -62,15 +73,38 @@ impl Tally {
         self.second_parts.get(phase).copied().unwrap_or(0)
     }
 
+    /// How often arrival decided against the lower code, in a phase or of offers.
+    pub fn by_arrival(&self, among: &str) -> u64 {
+        self.by_arrival.get(among).copied().unwrap_or(0)
+    }
+
+    /// Of a trade of this call in this phase.
+    pub fn count_by_arrival(&mut self, call: &Call, phase: Phase) {
+        let among = match call {
+            Call::EnterOffer(_) => "offers".into(),
+            _ => phase_word(phase),
+        };
+        *self.by_arrival.entry(among).or_default() += 1;
+    }
+
     /// Counts what the output alone doesn't tell.
     pub fn count_call(&mut self, call: &Call, answer: &Answer) {
         match (call, answer) {
             (Call::Group { .. }, _) => self.count_group(answer),
+            (Call::Cancel { .. }, _) => self.count_cancel(answer),
             (Call::EndCollecting, Ok(done)) => self.count_auction(done.trades),
             (Call::EnterOffer(_), _) => self.count_offer(answer),
             (Call::SecondPart { .. }, _) => self.count_word("SECOND", answer),
             (Call::NewDay { .. }, _) => self.count_word("DAY", answer),
             _ => {}
+        }
+    }
+
+    fn count_cancel(&mut self, answer: &Answer) {
+        match answer {
+            Ok(_) => self.cancels_accepted += 1,
+            Err(refused) if refused.number == refusal::NO_SUCH_ORDER => self.cancels_of_none += 1,
+            Err(_) => {}
         }
     }
 
@@ -92,8 +126,7 @@ impl Tally {
 
     /// An accepted one, in its phase, so many days after the due day.
     pub fn count_second_part(&mut self, phase: Phase, days_late: u64) {
-        let phase = format!("{phase:?}").to_lowercase();
-        *self.second_parts.entry(phase).or_default() += 1;
+        *self.second_parts.entry(phase_word(phase)).or_default() += 1;
         self.late_second_parts += u64::from(days_late > 0);
     }
 
@@ -171,18 +204,14 @@ impl fmt::Display for Tally {
             "  groups accepted {}, refused {} ({} after earlier members had traded)",
             self.groups_accepted, self.groups_refused, self.groups_undone
         )?;
+        self.write_cancels(out)?;
         if self.auctions > 0 {
             self.write_auctions(out)?;
         }
         if !self.deal_answers.is_empty() {
             self.write_deals(out)?;
         }
-        write!(out, "  refusals (number: count)")?;
-        for (number, count) in self.refusals.iter().enumerate().skip(1) {
-            if *count > 0 {
-                write!(out, " {number}: {count}")?;
-            }
-        }
+        self.write_refusals(out)?;
         if !self.phases.is_empty() {
             write!(out, "\n  phases shown (phase: count)")?;
         }
@@ -205,6 +234,29 @@ impl fmt::Display for Tally {
 }
 
 impl Tally {
+    fn write_cancels(&self, out: &mut fmt::Formatter) -> fmt::Result {
+        writeln!(
+            out,
+            "  cancellations accepted {}, of no such order {}",
+            self.cancels_accepted, self.cancels_of_none
+        )?;
+        write!(out, "  earlier arrivals before a lower code")?;
+        for (among, count) in &self.by_arrival {
+            write!(out, " {among}: {count}")?;
+        }
+        writeln!(out)
+    }
+
+    fn write_refusals(&self, out: &mut fmt::Formatter) -> fmt::Result {
+        write!(out, "  refusals (number: count)")?;
+        for (number, count) in self.refusals.iter().enumerate().skip(1) {
+            if *count > 0 {
+                write!(out, " {number}: {count}")?;
+            }
+        }
+        Ok(())
+    }
+
     fn write_auctions(&self, out: &mut fmt::Formatter) -> fmt::Result {
         writeln!(
             out,

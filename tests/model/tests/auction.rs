@@ -9,8 +9,11 @@ use model::random::Random;
 
 const LISTS: u64 = 400;
 
+const PARTICIPANTS: u64 = 3;
+
 #[derive(Clone, Copy, Debug)]
 struct Order {
+    participant: u64,
     side: Side,
     price: u64,
     lots: u64,
@@ -18,6 +21,7 @@ struct Order {
 
 fn buy(price: u64, lots: u64) -> Order {
     Order {
+        participant: 0,
         side: Side::Buy,
         price,
         lots,
@@ -26,6 +30,7 @@ fn buy(price: u64, lots: u64) -> Order {
 
 fn sell(price: u64, lots: u64) -> Order {
     Order {
+        participant: 1,
         side: Side::Sell,
         price,
         lots,
@@ -37,8 +42,7 @@ fn call(engine: &mut Engine, call: &Call, trades: &mut Vec<Trade>) {
     assert!(answer.is_ok(), "{call:?}: {answer:?}");
 }
 
-/// Participant 0 buys and 1 sells; codes are the orders' places from 1.
-fn collecting(orders: &[Order]) -> Engine {
+fn opened() -> Engine {
     let line = SecurityLine {
         currency: 0,
         lot_size: 1,
@@ -46,26 +50,31 @@ fn collecting(orders: &[Order]) -> Engine {
         nominal: 0,
     };
     let opening = Opening {
-        participants: 2,
+        participants: PARTICIPANTS,
         currencies: 1,
         securities: vec![line],
         rate: 0,
         date: 0,
     };
-    let mut engine = Engine::open(&opening, true).expect("the opening is in range");
-    let movement = |participant, amount| Movement {
+    Engine::open(&opening, true).expect("the opening is in range")
+}
+
+/// All have an equal share of money and pieces.
+fn collecting(orders: &[Order]) -> Engine {
+    let share = |participant, limit| Movement {
         participant,
         asset: 0,
-        amount,
+        amount: limit / PARTICIPANTS,
     };
-    let mut calls = vec![
-        Call::MoneyUp(movement(0, MONEY_LIMIT)),
-        Call::PiecesUp(movement(1, PIECES_LIMIT)),
-        Call::StartCollecting,
-    ];
+    let mut calls = Vec::new();
+    for participant in 0..PARTICIPANTS {
+        calls.push(Call::MoneyUp(share(participant, MONEY_LIMIT)));
+        calls.push(Call::PiecesUp(share(participant, PIECES_LIMIT)));
+    }
+    calls.push(Call::StartCollecting);
     calls.extend(orders.iter().map(|order| {
         Call::Enter(Entry {
-            participant: u64::from(order.side == Side::Sell),
+            participant: order.participant,
             side: order.side,
             security: 0,
             price: order.price,
@@ -73,6 +82,7 @@ fn collecting(orders: &[Order]) -> Engine {
             kind: EntryKind::Kept,
         })
     }));
+    let mut engine = opened();
     for each in &calls {
         call(&mut engine, each, &mut Vec::new());
     }
@@ -110,6 +120,7 @@ fn small_list(random: &mut Random) -> Vec<Order> {
     let lowest = random.within(1, PRICE_LIMIT - prices + 1);
     let most_lots = random.pick(&[1, 2, 3, 10]);
     let mut order = || Order {
+        participant: random.below(PARTICIPANTS),
         side: random.pick(&[Side::Buy, Side::Sell]),
         price: lowest + random.below(prices),
         lots: random.within(1, most_lots),
@@ -155,26 +166,39 @@ fn check_price(orders: &[Order], price: Option<u64>, decided: &mut Decided) {
     }
 }
 
-/// Buy code, sell code and lots of each trade that is due at the price.
-fn due_trades(orders: &[Order], price: u64) -> Vec<(u64, u64, u64)> {
-    let mut left: Vec<(u64, Order)> = (1..).zip(orders.iter().copied()).collect();
+/// Buyer and his code, seller and his code, and lots.
+type DueTrade = ([u64; 2], [u64; 2], u64);
+
+/// An order's participant, and its code among those of his.
+fn name_of(orders: &[Order], place: usize) -> [u64; 2] {
+    let participant = orders[place].participant;
+    let up_to_it = orders[..=place].iter();
+    let own = up_to_it.filter(|order| order.participant == participant);
+    [participant, own.count() as u64]
+}
+
+/// The trades that are due at the price. An order's place in the list is its
+/// arrival.
+fn due_trades(orders: &[Order], price: u64) -> Vec<DueTrade> {
+    let mut left: Vec<Order> = orders.to_vec();
     let mut trades = Vec::new();
     loop {
-        let buys = left.iter().enumerate().filter(|(_, (_, order))| {
-            order.side == Side::Buy && order.price >= price && order.lots > 0
-        });
-        let dearest = buys.min_by_key(|(_, (code, order))| (Reverse(order.price), *code));
-        let sells = left.iter().enumerate().filter(|(_, (_, order))| {
+        let buys = left
+            .iter()
+            .enumerate()
+            .filter(|(_, order)| order.side == Side::Buy && order.price >= price && order.lots > 0);
+        let dearest = buys.min_by_key(|(arrival, order)| (Reverse(order.price), *arrival));
+        let sells = left.iter().enumerate().filter(|(_, order)| {
             order.side == Side::Sell && order.price <= price && order.lots > 0
         });
-        let cheapest = sells.min_by_key(|(_, (code, order))| (order.price, *code));
+        let cheapest = sells.min_by_key(|(arrival, order)| (order.price, *arrival));
         let (Some((buy, _)), Some((sell, _))) = (dearest, cheapest) else {
             return trades;
         };
-        let lots = left[buy].1.lots.min(left[sell].1.lots);
-        trades.push((left[buy].0, left[sell].0, lots));
-        left[buy].1.lots -= lots;
-        left[sell].1.lots -= lots;
+        let lots = left[buy].lots.min(left[sell].lots);
+        trades.push((name_of(orders, buy), name_of(orders, sell), lots));
+        left[buy].lots -= lots;
+        left[sell].lots -= lots;
     }
 }
 
@@ -182,10 +206,12 @@ fn check_trades(orders: &[Order], mut engine: Engine, price: Option<u64>) {
     let mut trades = Vec::new();
     call(&mut engine, &Call::EndCollecting, &mut trades);
     let due = price.map_or(Vec::new(), |price| due_trades(orders, price));
-    let made: Vec<(u64, u64, u64)> = trades
-        .iter()
-        .map(|trade| (trade.buy_code, trade.sell_code, trade.lots))
-        .collect();
+    let made = trades.iter().map(|trade| {
+        let buy = [trade.buyer, trade.buy_code];
+        let sell = [trade.seller, trade.sell_code];
+        (buy, sell, trade.lots)
+    });
+    let made: Vec<DueTrade> = made.collect();
     assert_eq!(made, due, "{orders:?}");
     assert!(trades.iter().all(|trade| Some(trade.price) == price));
     let lots: u64 = trades.iter().map(|trade| trade.lots).sum();

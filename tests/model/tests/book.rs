@@ -21,16 +21,17 @@ fn the_worked_example_adds_up() {
 #[test]
 fn faulty_outputs_are_found() {
     let faults = [
-        ("A,6,0,0,2,10,10,1\n", "A,6,0,0,2,9,10,1\n"),
-        ("A,6,0,0,2,10,10,1\n", "A,7,0,0,2,10,10,1\n"),
+        ("A,6,0,0,1,10,10,1\n", "A,6,0,0,1,9,10,1\n"),
+        ("A,6,0,0,1,10,10,1\n", "A,7,0,0,1,10,10,1\n"),
+        ("A,6,0,0,1,10,10,1\n", "A,6,0,0,2,10,10,1\n"),
         ("A,7,8,0,0,0,0,0\n", "A,7,8,0,1,0,0,0\n"),
-        ("A,9,0,0,2,0,0,0\n", "A,9,16,0,0,0,0,0\n"),
+        ("A,9,0,0,1,0,0,0\n", "A,9,16,0,0,0,0,0\n"),
         ("A,5,0,0,1,0,10,0\n", ""),
-        ("T,2,1,0,1,0,95,10,9500\n", "T,2,1,0,1,0,100,10,10000\n"),
-        ("T,2,1,0,1,0,95,10,9500\n", "T,2,1,0,1,0,95,10,9501\n"),
-        ("T,2,1,0,1,0,95,10,9500\n", "T,2,1,1,0,0,95,10,9500\n"),
-        ("T,2,1,0,1,0,95,10,9500\n", "T,2,1,7,1,0,95,10,9500\n"),
-        ("T,2,3,0,1,0,100,5,5000\n", ""),
+        ("T,1,1,0,1,0,95,10,9500\n", "T,1,1,0,1,0,100,10,10000\n"),
+        ("T,1,1,0,1,0,95,10,9500\n", "T,1,1,0,1,0,95,10,9501\n"),
+        ("T,1,1,0,1,0,95,10,9500\n", "T,1,1,1,0,0,95,10,9500\n"),
+        ("T,1,1,0,1,0,95,10,9500\n", "T,1,1,7,1,0,95,10,9500\n"),
+        ("T,1,2,0,1,0,100,5,5000\n", ""),
         ("M,0,0,15500,0\n", "M,0,0,10500,5000\n"),
         ("M,1,0,14500,0\n", "M,1,0,14501,0\n"),
         ("Q,0,0,150,0\n", "Q,0,0,149,0\n"),
@@ -62,7 +63,7 @@ fn altered_script(line: &str, by: &str) -> Result<(), String> {
 
 #[test]
 fn the_script_adds_up() {
-    assert_eq!(altered_script("CODES,4\n", "CODES,4\n"), Ok(()));
+    assert_eq!(altered_script("CODES,0,4\n", "CODES,0,4\n"), Ok(()));
 }
 
 #[test]
@@ -80,7 +81,11 @@ fn faulty_outputs_of_scripts_are_found() {
         ("TURNOVER,0,100,9500\n", "TURNOVER,0,101,9500\n"),
         ("TURNOVER,0,100,9500\n", "TURNOVER,0,100,9501\n"),
         ("TURNOVER,0,100,9500\n", "TURNOVER,1,100,9500\n"),
-        ("CODES,4\n", "CODES,3\n"),
+        ("CODES,0,4\n", "CODES,0,3\n"),
+        ("CODES,0,4\n", "CODES,1,4\n"),
+        ("CODES,0,4\n", "CODES,4\n"),
+        ("CODES,0,4\n", "CODES,0,4\nCODES,1,0\n"),
+        ("CODES,0,4\n", ""),
         ("WAITS,0,3,B,0,3,P,0\n", "WAITS,0,3,B,0,2,P,0\n"),
         ("WAITS,0,3,B,0,3,P,0\n", "WAITS,0,3,L,0,3,P,0\n"),
         ("WAITS,0,3,B,0,3,P,0\n", "WAITS,0,3,B,0,3,P,95\n"),
@@ -107,7 +112,7 @@ fn altered_auction(line: &str, by: &str) -> Result<(), String> {
 
 #[test]
 fn the_auction_adds_up() {
-    assert_eq!(altered_auction("CODES,2\n", "CODES,2\n"), Ok(()));
+    assert_eq!(altered_auction("CODES,0,2\n", "CODES,0,2\n"), Ok(()));
 }
 
 /// The last ones are orders left over after the auction, trades in Q and T,
@@ -128,8 +133,8 @@ fn faulty_outputs_of_an_auction_are_found() {
             "PHASE,open\nTURNOVER,0,20,1900\n",
         ),
         (
-            "PHASE,open\nTURNOVER,0,0,0\nCODES,2\n",
-            "PHASE,open\nTURNOVER,0,0,0\nCODES,2\nWAITS,0,1,B,0,1,K,100\n",
+            "PHASE,open\nTURNOVER,0,0,0\nCODES,0,2\n",
+            "PHASE,open\nTURNOVER,0,0,0\nCODES,0,2\nWAITS,0,1,B,0,1,K,100\n",
         ),
         ("M,0,0,30000,0\n", "M,0,0,29000,1000\n"),
     ];
@@ -169,7 +174,7 @@ fn faulty_outputs_with_a_tariff_are_found() {
         ("MARKET,0,2\n", "MARKET,0,2,0\n"),
         ("MARKET,0,2\n", "MARKET,0,2\nMARKET,1,0\n"),
         ("MARKET,0,2\n", ""),
-        ("T,2,1,0,1,0,99,2,198\n", "T,2,1,0,1,0,99,2,199\n"),
+        ("T,1,1,0,1,0,99,2,198\n", "T,1,1,0,1,0,99,2,199\n"),
         ("TURNOVER,0,2,198\n", "TURNOVER,0,2,199\n"),
     ];
     for (line, by) in faults {
@@ -188,7 +193,7 @@ fn altered_percent(line: &str, by: &str) -> Result<(), String> {
 
 #[test]
 fn prices_in_percent_add_up() {
-    assert_eq!(altered_percent("CODES,2\n", "CODES,2\n"), Ok(()));
+    assert_eq!(altered_percent("CODES,1,1\n", "CODES,1,1\n"), Ok(()));
 }
 
 /// Each a unit, or by price and pieces what goes by the nominal; the last ones
@@ -196,8 +201,8 @@ fn prices_in_percent_add_up() {
 #[test]
 fn faulty_outputs_with_prices_in_percent_are_found() {
     let faults = [
-        ("T,1,2,0,1,0,9999,1,19998\n", "T,1,2,0,1,0,9999,1,19999\n"),
-        ("T,1,2,0,1,0,9999,1,19998\n", "T,1,2,0,1,0,9999,1,9999\n"),
+        ("T,1,1,0,1,0,9999,1,19998\n", "T,1,1,0,1,0,9999,1,19999\n"),
+        ("T,1,1,0,1,0,9999,1,19998\n", "T,1,1,0,1,0,9999,1,9999\n"),
         ("M,0,0,1,39997\n", "M,0,0,0,39998\n"),
         ("M,0,0,1,39997\n", "M,0,0,2,39996\n"),
         ("M,0,0,1,39997\n", "M,0,0,0,39997\n"),
@@ -222,7 +227,7 @@ fn crossing_orders_while_open_are_found() {
     let text = "H,1,1,1\nS,0,10,5\nR,0,0,1000\nD,0,0,10\nL,0,0,95,1,K\nB,0,0,100,1,K\n";
     let output = "A,1,0,0,0,0,0,0\nA,3,0,0,0,0,0,0\nA,4,0,0,0,0,0,0\nA,5,0,0,1,0,1,0\n\
                   A,6,0,0,2,0,1,0\nM,0,0,0,1000\nQ,0,0,0,10\nPHASE,open\nTURNOVER,0,0,0\n\
-                  CODES,2\nWAITS,0,1,L,0,1,K,95\nWAITS,0,2,B,0,1,K,100\nMARKET,0,0\nDATE,0\n";
+                  CODES,0,2\nWAITS,0,1,L,0,1,K,95\nWAITS,0,2,B,0,1,K,100\nMARKET,0,0\nDATE,0\n";
     let found = check_printed::<SCRIPT>(text.as_bytes(), output.as_bytes());
     assert_eq!(
         found,
@@ -248,16 +253,22 @@ fn faulty_outputs_of_offers_are_found() {
     let faults = [
         ("A,5,0,0,1,0,20,0\n", "A,5,0,0,1,0,19,0\n"),
         ("A,5,0,0,1,0,20,0\n", "A,5,0,0,2,0,20,0\n"),
-        ("A,6,0,0,2,20,0,1\n", "A,6,0,0,2,20,20,1\n"),
-        ("A,6,0,0,2,20,0,1\n", "A,6,0,0,2,19,0,1\n"),
-        ("T,1,2,0,1,0,100,20,20000\n", "T,1,2,1,0,0,100,20,20000\n"),
-        ("T,1,2,0,1,0,100,20,20000\n", "T,2,1,0,1,0,100,20,20000\n"),
-        ("T,1,2,0,1,0,100,20,20000\n", "T,1,2,0,1,0,95,20,19000\n"),
-        ("T,1,2,0,1,0,100,20,20000\n", "T,1,2,0,1,0,100,19,19000\n"),
+        ("A,6,0,0,1,20,0,1\n", "A,6,0,0,1,20,20,1\n"),
+        ("A,6,0,0,1,20,0,1\n", "A,6,0,0,1,19,0,1\n"),
+        ("A,6,0,0,1,20,0,1\n", "A,6,0,0,2,20,0,1\n"),
+        ("T,1,1,0,1,0,100,20,20000\n", "T,1,1,1,0,0,100,20,20000\n"),
+        ("T,1,1,0,1,0,100,20,20000\n", "T,1,2,0,1,0,100,20,20000\n"),
+        ("T,1,1,0,1,0,100,20,20000\n", "T,2,1,0,1,0,100,20,20000\n"),
+        ("T,1,1,0,1,0,100,20,20000\n", "T,1,1,0,1,0,95,20,19000\n"),
+        ("T,1,1,0,1,0,100,20,20000\n", "T,1,1,0,1,0,100,19,19000\n"),
         ("Q,1,0,100,100\n", "Q,1,0,200,0\n"),
         ("M,1,0,19800,0\n", "M,1,0,20000,0\n"),
         ("TURNOVER,0,0,0\n", "TURNOVER,0,200,20000\n"),
-        ("CODES,3\n", "CODES,1\n"),
+        ("CODES,0,1\nCODES,1,2\n", "CODES,0,1\nCODES,1,1\n"),
+        ("CODES,0,1\nCODES,1,2\n", "CODES,0,2\nCODES,1,1\n"),
+        ("CODES,0,1\nCODES,1,2\n", "CODES,0,3\nCODES,1,3\n"),
+        ("CODES,0,1\nCODES,1,2\n", "CODES,1,2\nCODES,0,1\n"),
+        ("CODES,0,1\nCODES,1,2\n", "CODES,3\n"),
         (",10,OFFER,100,500,7\n", ",10,OFFER,100,500,8\n"),
         (",10,OFFER,100,500,7\n", ",10,OFFER,100,501,7\n"),
         (",10,OFFER,100,500,7\n", ",10,OFFER,105,500,7\n"),
@@ -308,7 +319,8 @@ fn faulty_outputs_of_second_parts_and_new_days_are_found() {
             "DATE,66\nDEAL,1,0,1,0,20,100,500,59,66,20000,20019\n",
         ),
         ("DATE,66\n", "DATE,59\n"),
-        ("CODES,0\n", "CODES,3\n"),
+        ("CODES,0,0\nCODES,1,0\n", "CODES,0,1\nCODES,1,2\n"),
+        ("CODES,0,0\nCODES,1,0\n", "CODES,0,0\nCODES,1,2\n"),
     ];
     for (part, by) in faults {
         let found = altered_in(DEAL_TEXT, part, by);

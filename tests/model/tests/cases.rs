@@ -32,7 +32,7 @@ fn assert_expected<const LEVEL: u8>(cases: &[Case]) {
 }
 
 /// No day file lends an unsound state (1) or too short a list (2), and none
-/// has room for a million orders (13).
+/// has room for 62,501 orders of one participant (13).
 #[test]
 fn every_refusal_within_reach_is_expected() -> Result<(), String> {
     let cases = cases()?;

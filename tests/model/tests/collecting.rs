@@ -154,21 +154,21 @@ fn what_each_call_answers_while_collecting() {
         "W,0,0,1",
         "D,1,0,1",
         "E,1,0,1",
-        "X,0,2",
+        "X,0,1",
         "B,0,0,100,0,K",
         "B,0,0,106,1,K",
         "B,0,0,100,100,K",
         "B,0,0,5,1,K",
         "LENT,1087",
         "B,0,0,5,1,K",
-        "X,0,3",
+        "X,0,2",
     ];
     let expected = [
         "A,3,0,0,0,0,0,0",
         "A,4,0,0,0,0,0,0",
         "A,5,0,0,0,0,0,0",
         "A,6,0,0,1,0,10,0",
-        "A,7,0,0,2,0,4,0",
+        "A,7,0,0,1,0,4,0",
         "A,8,6,0,0,0,0,0",
         "A,9,4,0,0,0,0,0",
         "A,10,6,0,0,0,0,0",
@@ -184,14 +184,14 @@ fn what_each_call_answers_while_collecting() {
         "A,26,0,0,0,0,0,0",
         "A,27,0,0,0,0,0,0",
         "A,28,0,0,0,0,0,0",
-        "A,29,0,0,2,0,0,0",
+        "A,29,0,0,1,0,0,0",
         "A,30,7,0,0,0,0,0",
         "A,31,8,0,0,0,0,0",
-        "A,32,0,0,3,0,100,0",
+        "A,32,0,0,2,0,100,0",
         "A,33,14,0,0,0,0,0",
         "A,34,0,0,0,0,0,0",
         "A,35,2,0,0,0,0,0",
-        "A,36,0,0,3,0,0,0",
+        "A,36,0,0,2,0,0,0",
     ];
     assert_eq!(answers(&RESERVES, &lines), expected);
 }
@@ -224,8 +224,8 @@ fn buyers_are_freed_by_the_fall_of_their_own_need() {
         "A,5,0,0,0,0,0,0",
         "A,6,0,0,1,0,10,0",
         "A,7,0,0,2,0,10,0",
-        "A,8,0,0,3,0,4,0",
-        "A,9,0,0,4,0,8,0",
+        "A,8,0,0,1,0,4,0",
+        "A,9,0,0,2,0,8,0",
         "A,10,0,0,0,0,0,0",
         "M,0,0,0,20000",
         "M,1,0,0,0",
@@ -233,19 +233,20 @@ fn buyers_are_freed_by_the_fall_of_their_own_need() {
         "Q,1,0,80,120",
         "PHASE,collecting",
         "TURNOVER,0,0,0",
-        "CODES,4",
+        "CODES,0,2",
+        "CODES,1,2",
         "WAITS,0,1,B,0,10,K,105",
         "WAITS,0,2,B,0,10,K,95",
-        "WAITS,1,3,L,0,4,K,95",
-        "WAITS,1,4,L,0,8,K,90",
+        "WAITS,1,1,L,0,4,K,95",
+        "WAITS,1,2,L,0,8,K,90",
         "MARKET,0,0",
         "DATE,0",
     ];
     let auction = [
         "A,11,0,0,0,12,0,3",
-        "T,1,4,0,1,0,95,8,7600",
-        "T,1,3,0,1,0,95,2,1900",
-        "T,2,3,0,1,0,95,2,1900",
+        "T,1,2,0,1,0,95,8,7600",
+        "T,1,1,0,1,0,95,2,1900",
+        "T,2,1,0,1,0,95,2,1900",
         "A,12,16,0,0,0,0,0",
         "A,13,0,0,0,0,0,0",
         "A,14,11,0,0,0,0,0",
@@ -255,7 +256,8 @@ fn buyers_are_freed_by_the_fall_of_their_own_need() {
         "Q,1,0,80,0",
         "PHASE,closing",
         "TURNOVER,0,0,0",
-        "CODES,4",
+        "CODES,0,2",
+        "CODES,1,2",
         "MARKET,0,0",
         "DATE,0",
     ];
@@ -279,10 +281,10 @@ fn trading_and_closing_after_the_auction() {
         "SHOW",
     ];
     let output = printed(&[&RESERVES[..], &lines].concat());
-    let after: Vec<&str> = output.lines().skip(6).take(28).collect();
+    let after: Vec<&str> = output.lines().skip(6).take(30).collect();
     let expected = [
         "A,8,0,0,0,10,0,1",
-        "T,2,1,0,1,0,95,10,9500",
+        "T,1,1,0,1,0,95,10,9500",
         "A,9,0,0,0,0,0,0",
         "M,0,0,90500,0",
         "M,1,0,9500,0",
@@ -290,14 +292,15 @@ fn trading_and_closing_after_the_auction() {
         "Q,1,0,900,0",
         "PHASE,open",
         "TURNOVER,0,0,0",
-        "CODES,2",
+        "CODES,0,1",
+        "CODES,1,1",
         "MARKET,0,0",
         "DATE,0",
-        "A,10,0,0,3,0,3,0",
-        "A,11,0,0,4,3,0,1",
-        "T,4,3,0,1,0,105,3,3150",
+        "A,10,0,0,2,0,3,0",
+        "A,11,0,0,2,3,0,1",
+        "T,2,2,0,1,0,105,3,3150",
         "A,12,0,0,0,0,0,0",
-        "A,13,0,0,5,0,1,0",
+        "A,13,0,0,3,0,1,0",
         "A,14,0,0,0,0,0,0",
         "M,0,0,86300,1050",
         "M,1,0,12650,0",
@@ -305,8 +308,9 @@ fn trading_and_closing_after_the_auction() {
         "Q,1,0,870,0",
         "PHASE,closing",
         "TURNOVER,0,30,3150",
-        "CODES,5",
-        "WAITS,0,5,B,0,1,P,0",
+        "CODES,0,3",
+        "CODES,1,2",
+        "WAITS,0,3,B,0,1,P,0",
         "MARKET,0,0",
         "DATE,0",
     ];
@@ -334,20 +338,22 @@ fn orders_that_do_not_meet_come_off() {
         "Q,1,0,900,100",
         "PHASE,collecting",
         "TURNOVER,0,0,0",
-        "CODES,2",
+        "CODES,0,1",
+        "CODES,1,1",
         "WAITS,1,1,L,0,10,K,105",
-        "WAITS,0,2,B,0,10,K,100",
+        "WAITS,0,1,B,0,10,K,100",
         "MARKET,0,0",
         "DATE,0",
         "A,9,0,0,0,0,0,0",
-        "A,10,0,0,3,0,0,0",
+        "A,10,0,0,2,0,0,0",
         "M,0,0,100000,0",
         "M,1,0,0,0",
         "Q,0,0,0,0",
         "Q,1,0,1000,0",
         "PHASE,open",
         "TURNOVER,0,0,0",
-        "CODES,3",
+        "CODES,0,2",
+        "CODES,1,1",
         "MARKET,0,0",
         "DATE,0",
     ];
@@ -386,7 +392,7 @@ fn securities_ascend() {
         "PHASE,open",
         "TURNOVER,0,0,0",
         "TURNOVER,1,0,0",
-        "CODES,4",
+        "CODES,0,4",
         "MARKET,0,0",
         "MARKET,1,0",
         "DATE,0",
@@ -394,9 +400,9 @@ fn securities_ascend() {
     assert_eq!(after, expected);
 }
 
-/// Of equal prices the lower code trades, and the last order gets nothing.
+/// Of equal prices the earlier arrival trades first; a lot of the later buy is left.
 #[test]
-fn lower_codes_first() {
+fn earlier_arrivals_first() {
     let lines = [
         "COLLECT",
         "B,0,0,100,3,K",
@@ -412,10 +418,10 @@ fn lower_codes_first() {
         .filter(|line| line.starts_with("T,"))
         .collect();
     let expected = [
-        "T,3,4,0,1,0,100,3,3000",
-        "T,1,4,0,1,0,100,1,1000",
-        "T,1,5,0,1,0,100,2,2000",
-        "T,2,5,0,1,0,100,2,2000",
+        "T,3,1,0,1,0,100,3,3000",
+        "T,1,1,0,1,0,100,1,1000",
+        "T,1,2,0,1,0,100,2,2000",
+        "T,2,2,0,1,0,100,2,2000",
     ];
     assert_eq!(trades, expected);
 }
@@ -429,7 +435,7 @@ fn the_book_is_full() {
     lines.extend([
         ("B,0,0,1000000,10000,K", 12),
         ("B,0,0,6,1,K", 8),
-        ("X,1,65", 0),
+        ("X,1,1", 0),
         ("L,1,0,5,1,K", 0),
         ("L,1,0,5,1,K", 12),
         ("AUCTION", 0),

@@ -9,7 +9,8 @@ const SCRIPTS: u64 = 800;
 
 const PHASES: [&str; 4] = ["open", "collecting", "closing", "closed"];
 
-/// Every state is sound (1), and no script has room for a million orders (13).
+/// Every state is sound (1), and no script has room for 62,501 orders of one
+/// participant (13).
 #[test]
 fn every_refusal_and_phase_within_reach_is_reached() -> Result<(), String> {
     let mut tally = Tally::default();
@@ -34,8 +35,23 @@ fn every_refusal_and_phase_within_reach_is_reached() -> Result<(), String> {
     assert!(with_fees > SCRIPTS, "{with_fees} accounts with fees");
     let (trades, odd_sums) = (tally.trades, tally.odd_sums);
     assert!(odd_sums > trades / 10, "{odd_sums} sums by a nominal");
+    assert_codes_are_reached(&tally);
     assert_deals_are_reached(&tally);
     Ok(())
+}
+
+/// Where the lower code would decide otherwise than the arrival, and how
+/// cancellations by own codes go out.
+fn assert_codes_are_reached(tally: &Tally) {
+    for phase in ["open", "collecting", "closing"] {
+        let count = tally.by_arrival(phase);
+        assert!(count > SCRIPTS, "{count} by arrival while {phase}");
+    }
+    let of_offers = tally.by_arrival("offers");
+    assert!(of_offers > SCRIPTS / 10, "{of_offers} offers by arrival");
+    let (accepted, of_none) = (tally.cancels_accepted, tally.cancels_of_none);
+    assert!(accepted > 2 * SCRIPTS, "{accepted} cancellations");
+    assert!(of_none > 2 * SCRIPTS, "{of_none} of no such order");
 }
 
 fn assert_deals_are_reached(tally: &Tally) {

@@ -42,7 +42,8 @@ const QUIET: Ways = [&[], &["COLLECT"], &["C"], &["C", "Z"]];
 const SELL: &str = "L,1,0,95,4,K";
 const BUY: &str = "B,0,0,95,4,K";
 
-/// A sell of code 3 and a buy of code 4 wait, until the day is closed. While
+/// The second order of each waits, 1's sell and 0's buy, until the day is closed;
+/// while collecting the first ones too. While
 /// collecting nothing has traded, in the other phases something in security 0.
 const BUSY: Ways = [
     &[SELL, BUY, "L,1,0,95,6,K", "B,0,0,90,6,K"],
@@ -134,14 +135,15 @@ const MEMBER: &str = "B,0,95,1";
 
 #[test]
 fn the_ways_lead_into_their_phases() {
-    for (ways, codes) in [(QUIET, "CODES,0"), (BUSY, "CODES,4")] {
+    for (ways, count) in [(QUIET, 0), (BUSY, 2)] {
+        let codes = format!("\nCODES,0,{count}\nCODES,1,{count}\n");
         for (way, phase) in ways.iter().zip(PHASES) {
             let lines = [&RESERVES[..], way].concat();
             let accepted: Vec<(&str, u64)> = lines.iter().map(|line| (*line, 0)).collect();
             assert_refusals(&HEADING, &accepted);
             let output = printed(&[&HEADING[..], &lines].concat());
             assert!(output.contains(&format!("PHASE,{phase}\n")), "{output}");
-            assert!(output.contains(&format!("{codes}\n")), "{output}");
+            assert!(output.contains(&codes), "{output}");
         }
     }
 }
@@ -360,10 +362,15 @@ fn reserves_move_in_every_phase() {
 #[test]
 fn a_waiting_order_is_cancelled_in_every_phase() {
     for (way, number) in BUSY.iter().zip([0, 0, 0, 16]) {
-        assert_answer(way, "X,1,3", [number, 0]);
-        assert_answer(way, "X,0,4", [number, 0]);
+        assert_answer(way, "X,1,2", [number, 0]);
+        assert_answer(way, "X,0,2", [number, 0]);
+    }
+    for (way, number) in BUSY.iter().zip([16, 0, 16, 16]) {
+        assert_answer(way, "X,1,1", [number, 0]);
+        assert_answer(way, "X,0,1", [number, 0]);
     }
     assert_in_every_phase("X,0,3", [16, 0]);
-    assert_in_every_phase("X,1,5", [16, 0]);
-    assert_in_every_phase("X,2,3", [4, 0]);
+    assert_in_every_phase("X,1,3", [16, 0]);
+    assert_in_every_phase("X,1,0", [16, 0]);
+    assert_in_every_phase("X,2,2", [4, 0]);
 }

@@ -155,7 +155,8 @@ fn an_offer_waits() {
         "Q,1,0,200,0",
         "PHASE,open",
         "TURNOVER,0,0,0",
-        "CODES,1",
+        "CODES,0,1",
+        "CODES,1,0",
         "WAITS,0,1,B,0,20,OFFER,100,500,7",
         "MARKET,0,0",
         "DATE,59",
@@ -166,7 +167,8 @@ fn an_offer_waits() {
         "Q,1,0,0,200",
         "PHASE,open",
         "TURNOVER,0,0,0",
-        "CODES,1",
+        "CODES,0,0",
+        "CODES,1,1",
         "WAITS,1,1,L,0,20,OFFER,100,0,365",
         "MARKET,0,0",
         "DATE,59",
@@ -182,15 +184,16 @@ const MET: [&str; 2] = ["OFFER,0,B,0,100,20,500,7", "OFFER,1,L,0,100,20,500,7"];
 fn an_offer_is_met() {
     let expected = [
         "A,5,0,0,1,0,20,0",
-        "A,6,0,0,2,20,0,1",
-        "T,1,2,0,1,0,100,20,20000",
+        "A,6,0,0,1,20,0,1",
+        "T,1,1,0,1,0,100,20,20000",
         "M,0,0,0,0",
         "M,1,0,19800,0",
         "Q,0,0,200,0",
         "Q,1,0,0,0",
         "PHASE,open",
         "TURNOVER,0,0,0",
-        "CODES,2",
+        "CODES,0,1",
+        "CODES,1,1",
         "MARKET,0,400",
         "DATE,59",
         "DEAL,1,0,1,0,20,100,500,59,66,20000,20019",
@@ -204,15 +207,16 @@ fn a_waiting_sell_is_met() {
     let lines = [&RESERVES[..], &[MET[1], MET[0]]].concat();
     let expected = [
         "A,5,0,0,1,0,20,0",
-        "A,6,0,0,2,20,0,1",
-        "T,2,1,0,1,0,100,20,20000",
+        "A,6,0,0,1,20,0,1",
+        "T,1,1,0,1,0,100,20,20000",
         "M,0,0,0,0",
         "M,1,0,19800,0",
         "Q,0,0,200,0",
         "Q,1,0,0,0",
         "PHASE,open",
         "TURNOVER,0,0,0",
-        "CODES,2",
+        "CODES,0,1",
+        "CODES,1,1",
         "MARKET,0,400",
         "DATE,59",
         "DEAL,1,0,1,0,20,100,500,59,66,20000,20019",
@@ -264,7 +268,8 @@ fn the_second_part_on_its_due_day() {
         "Q,1,0,200,0",
         "PHASE,open",
         "TURNOVER,0,0,0",
-        "CODES,0",
+        "CODES,0,0",
+        "CODES,1,0",
         "MARKET,0,400",
         "DATE,66",
     ];
@@ -305,7 +310,7 @@ fn both_sides_must_cover_the_second_part() {
         ("X,0,1", 0),
         ("B,1,0,1,1,K", 0),
         ("SECOND,1", 14),
-        ("X,1,2", 0),
+        ("X,1,1", 0),
         ("SECOND,1", 0),
         ("W,0,0,36502", 10),
         ("W,0,0,36501", 0),
@@ -371,12 +376,13 @@ fn all_named_numbers_must_be_equal() {
     ];
     let answers = answers(&heading[..3], &[&heading[3..], &offers].concat());
     let of_offers = &answers[3..];
-    for (code, answer) in (1..).zip(&of_offers[..11]) {
+    let own_codes = [1, 1, 2, 3, 4, 5, 6, 7, 8, 9, 2];
+    for (code, answer) in own_codes.iter().zip(&of_offers[..11]) {
         assert!(answer.contains(&format!(",0,0,{code},0,")), "{answer}");
     }
-    assert_eq!(of_offers[11], "A,18,0,0,12,2,0,1");
+    assert_eq!(of_offers[11], "A,18,0,0,10,2,0,1");
     let output = printed(&[&heading[..], &offers].concat());
-    assert!(output.contains("\nT,1,12,0,1,0,100,2,200\n"), "{output}");
+    assert!(output.contains("\nT,1,10,0,1,0,100,2,200\n"), "{output}");
 }
 
 /// The oldest first, whoever entered it; then the next. A cancelled one is
@@ -392,10 +398,10 @@ fn the_oldest_counter_offer_is_met() {
         "OFFER,1,B,0,100,1,0,1",
     ];
     let expected = [
-        "A,11,0,0,4,1,0,1",
-        "T,4,2,0,0,0,100,1,100",
-        "A,12,0,0,5,1,0,1",
-        "T,5,3,1,1,0,100,1,100",
+        "A,11,0,0,2,1,0,1",
+        "T,2,1,0,0,0,100,1,100",
+        "A,12,0,0,3,1,0,1",
+        "T,3,2,1,1,0,100,1,100",
     ];
     let output = printed(&[&PLENTY[..], &offers].concat());
     let met: Vec<&str> = output.lines().skip(9).take(4).collect();
@@ -424,13 +430,13 @@ fn orders_and_offers_do_not_meet() {
     ];
     let expected = [
         "A,7,0,0,1,0,1,0",
-        "A,8,0,0,2,0,1,0",
+        "A,8,0,0,1,0,1,0",
         "A,9,15,0,0,0,0,0",
-        "A,10,0,0,3,0,0,0",
+        "A,10,0,0,2,0,0,0",
         "A,11,15,1,0,0,0,0",
-        "A,14,0,0,4,0,1,0",
-        "A,15,0,0,5,0,1,0",
-        "A,16,0,0,6,0,1,0",
+        "A,14,0,0,2,0,1,0",
+        "A,15,0,0,3,0,1,0",
+        "A,16,0,0,4,0,1,0",
     ];
     let answers = answers(&PLENTY[..2], &[&PLENTY[2..], &lines].concat());
     assert_eq!(answers[4..], expected);
@@ -446,18 +452,19 @@ fn orders_trade_past_offers() {
         "B,0,0,95,3,K",
     ];
     let expected = [
-        "A,10,0,0,4,2,1,1",
-        "T,4,2,0,1,0,95,2,190",
+        "A,10,0,0,1,2,1,1",
+        "T,1,2,0,1,0,95,2,190",
         "M,0,0,99999715,95",
         "M,1,0,100000190,0",
         "Q,0,0,1000002,0",
         "Q,1,0,999992,6",
         "PHASE,open",
         "TURNOVER,0,2,190",
-        "CODES,4",
+        "CODES,0,1",
+        "CODES,1,3",
         "WAITS,1,1,L,0,4,OFFER,95,0,1",
         "WAITS,1,3,L,0,2,OFFER,95,0,1",
-        "WAITS,0,4,B,0,1,K,95",
+        "WAITS,0,1,B,0,1,K,95",
         "MARKET,0,0",
         "DATE,0",
     ];
@@ -783,14 +790,14 @@ fn what_a_new_day_sets_anew() {
         "P,0,B,0,1",
     ];
     let expected = [
-        "A,10,0,0,5,0,1,0",
+        "A,10,0,0,3,0,1,0",
         "A,11,0,0,0,0,0,0",
         "A,12,0,0,0,0,0,0",
         "A,13,0,0,0,0,0,0",
         "A,14,0,0,1,0,4,0",
-        "A,15,0,0,2,0,4,0",
+        "A,15,0,0,1,0,4,0",
         "A,16,0,0,0,4,0,1",
-        "T,2,1,1,0,0,100,4,4000",
+        "T,1,1,1,0,0,100,4,4000",
         "A,17,21,0,0,0,0,0",
         "A,18,0,0,0,0,0,0",
         "A,19,11,0,0,0,0,0",
@@ -800,7 +807,8 @@ fn what_a_new_day_sets_anew() {
         "Q,1,0,40,0",
         "PHASE,closing",
         "TURNOVER,0,0,0",
-        "CODES,2",
+        "CODES,0,1",
+        "CODES,1,1",
         "MARKET,0,480",
         "DATE,3",
         "DEAL,1,0,1,0,10,100,0,0,5,10000,10000",

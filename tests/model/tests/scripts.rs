@@ -22,18 +22,19 @@ const NOTHING: [&str; 7] = [
     "Q,0,0,0,0",
     "PHASE,open",
     "TURNOVER,0,0,0",
-    "CODES,0",
+    "CODES,0,0",
     "MARKET,0,0",
     "DATE,0",
 ];
 
 /// The paper's day, which ends with nothing waiting: 10 lots of 10 at 95 and
-/// 5 at 100 traded, and the refused order of line 7 took no code.
+/// 5 at 100 traded. Each of them entered two orders, of which the buyer's on line
+/// 7 was refused and took no code.
 #[test]
 fn the_worked_example_shows_its_end() -> Result<(), String> {
     let example = cases()?.swap_remove(0);
     let mut expected = example.expected;
-    let added = b"PHASE,open\nTURNOVER,0,150,14500\nCODES,3\nMARKET,0,0\nDATE,0\n";
+    let added = b"PHASE,open\nTURNOVER,0,150,14500\nCODES,0,1\nCODES,1,2\nMARKET,0,0\nDATE,0\n";
     expected.extend_from_slice(added);
     let output = checked_output::<SCRIPT>(&example.text, &mut Tally::default())?;
     assert_eq!(
@@ -60,23 +61,24 @@ fn a_waiting_order_is_shown() {
         "A,3,0,0,0,0,0,0",
         "A,4,0,0,0,0,0,0",
         "A,5,0,0,1,0,10,0",
-        "A,6,0,0,2,10,10,1",
-        "T,2,1,0,1,0,95,10,9500",
+        "A,6,0,0,1,10,10,1",
+        "T,1,1,0,1,0,95,10,9500",
         "M,0,0,500,10000",
         "M,1,0,9500,0",
         "Q,0,0,100,0",
         "Q,1,0,100,0",
         "PHASE,open",
         "TURNOVER,0,100,9500",
-        "CODES,2",
-        "WAITS,0,2,B,0,10,K,100",
+        "CODES,0,1",
+        "CODES,1,1",
+        "WAITS,0,1,B,0,10,K,100",
         "MARKET,0,0",
         "DATE,0",
     ];
     assert_prints(&lines, &expected);
 }
 
-/// Waiting orders stand by rising code, whoever entered them.
+/// Waiting orders stand as they arrived, whoever entered them.
 #[test]
 fn waiting_orders_are_shown_in_their_order() {
     let lines = [
@@ -100,10 +102,11 @@ fn waiting_orders_are_shown_in_their_order() {
     let expected = [
         "TURNOVER,0,0,0",
         "TURNOVER,1,0,0",
-        "CODES,4",
-        "WAITS,0,2,L,1,7,K,9",
-        "WAITS,0,3,B,0,1,K,10",
-        "WAITS,1,4,B,1,3,K,8",
+        "CODES,0,2",
+        "CODES,1,2",
+        "WAITS,0,1,L,1,7,K,9",
+        "WAITS,0,2,B,0,1,K,10",
+        "WAITS,1,2,B,1,3,K,8",
         "MARKET,0,0",
         "DATE,0",
     ];
@@ -137,9 +140,9 @@ fn each_phase_is_shown() {
         "A,3,0,0,0,0,0,0",
         "A,4,0,0,0,0,0,0",
         "A,5,0,0,1,0,10,0",
-        "A,6,0,0,2,10,0,1",
-        "T,2,1,0,1,0,95,10,9500",
-        "A,7,0,0,3,0,2,0",
+        "A,6,0,0,1,10,0,1",
+        "T,1,1,0,1,0,95,10,9500",
+        "A,7,0,0,2,0,2,0",
         "A,8,0,0,0,0,0,0",
         "M,0,0,20500,0",
         "M,1,0,9500,0",
@@ -147,8 +150,9 @@ fn each_phase_is_shown() {
         "Q,1,0,80,20",
         "PHASE,open",
         "TURNOVER,0,100,9500",
-        "CODES,3",
-        "WAITS,1,3,L,0,2,K,105",
+        "CODES,0,1",
+        "CODES,1,2",
+        "WAITS,1,2,L,0,2,K,105",
         "MARKET,0,0",
         "DATE,0",
     ];
@@ -161,11 +165,12 @@ fn each_phase_is_shown() {
         "Q,1,0,100,0",
         "PHASE,closing",
         "TURNOVER,0,100,9500",
-        "CODES,3",
+        "CODES,0,1",
+        "CODES,1,2",
         "MARKET,0,0",
         "DATE,0",
-        "A,11,0,0,4,0,3,0",
-        "A,12,0,0,5,0,2,0",
+        "A,11,0,0,2,0,3,0",
+        "A,12,0,0,3,0,2,0",
         "A,13,0,0,0,0,0,0",
         "M,0,0,17650,2850",
         "M,1,0,9500,0",
@@ -173,15 +178,16 @@ fn each_phase_is_shown() {
         "Q,1,0,80,20",
         "PHASE,closing",
         "TURNOVER,0,100,9500",
-        "CODES,5",
-        "WAITS,0,4,B,0,3,P,0",
-        "WAITS,1,5,L,0,2,P,0",
+        "CODES,0,2",
+        "CODES,1,3",
+        "WAITS,0,2,B,0,3,P,0",
+        "WAITS,1,3,L,0,2,P,0",
         "MARKET,0,0",
         "DATE,0",
     ];
     let ended = [
         "A,14,0,0,0,2,0,1",
-        "T,4,5,0,1,0,95,2,1900",
+        "T,2,3,0,1,0,95,2,1900",
         "A,15,0,0,0,0,0,0",
     ];
     let closed = [
@@ -191,7 +197,8 @@ fn each_phase_is_shown() {
         "Q,1,0,80,0",
         "PHASE,closed",
         "TURNOVER,0,100,9500",
-        "CODES,5",
+        "CODES,0,2",
+        "CODES,1,3",
         "MARKET,0,0",
         "DATE,0",
     ];
@@ -280,7 +287,7 @@ fn a_short_list_stops_only_what_writes_trades() {
         "A,3,0,0,0,0,0,0",
         "A,4,0,0,0,0,0,0",
         "A,5,0,0,1,0,10,0",
-        "A,6,0,0,2,1,0,1",
+        "A,6,0,0,1,1,0,1",
         "A,7,0,0,0,0,0,0",
         "A,8,2,0,0,0,0,0",
         "A,9,2,0,0,0,0,0",
@@ -292,7 +299,7 @@ fn a_short_list_stops_only_what_writes_trades() {
         "A,17,0,0,0,0,0,0",
         "A,18,0,0,1,0,0,0",
         "A,19,0,0,0,0,0,0",
-        "A,20,0,0,3,0,1,0",
+        "A,20,0,0,2,0,1,0",
         "A,21,2,0,0,0,0,0",
         "A,22,0,0,0,0,0,0",
         "A,23,0,0,0,0,0,0",

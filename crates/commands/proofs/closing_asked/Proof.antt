@@ -2,13 +2,14 @@
 use Prim.Native.Nat.{ℕ, _<_}
 use native.Mathlib.Omega.{arith}
 use mathlib.Core.Path.{refl, ap, sym, _∙_}
+use mathlib.Core.List.{List}
 use borrow.Author.Needs.{needs}
 use Rattle.market.specs.Limits.{maxSecurities}
 use Rattle.commands.specs.Command.{carried}
 use Rattle.calls.proofs.Lists.{any-list, closing-listless}
 use Rattle.session.specs.Asking.{ClosingNo, closingWith}
 use Rattle.session.proofs.Asking.{appendable, appended, refuse}
-use Rattle.commands.proofs.Carrying.{closing-listed, closing-none, does-call}
+use Rattle.commands.proofs.Carrying.{closing-listed, closing-none, closing-owned, does-call}
 use Rattle.commands.proofs.closing_asked.Statement.{statement}
 use Rattle.commands.proofs.closing_asked.Tie as tie
 
@@ -47,7 +48,11 @@ array-copy-out-row : tie.Need-array-copy-out-row
 array-copy-out-row c = listed (c .before)
 
 closing-order-requires : tie.Need-closing-order-requires
-closing-order-requires c κs = search needs
+closing-order-requires c κs =
+    let e = c .before .before in
+    let a = e .before .before .args in
+    closing-owned (a .rules) (a .phase) (a .turnovers) (a .count) (a .codes) (a .money .now) (a .pieces .now) (a .participant)
+    (a .side) (a .security) (a .lots) (e .before .before .pre) (none e)
 
 returns-2 : tie.Need-returns-2
 unfolding carried
@@ -59,7 +64,7 @@ returns-2 c =
       λ b l ms e1 e2 e3 ready n.
           let clear = sym (none e b e1 e2 e3) in
           let entry = c .closing-order .ensures
-          ∙ ap (λ (i : ℕ). closingWith i (a .participant) (a .side) (a .security) (a .lots)) (sym e3) in
+          ∙ ap (λ (i : List ℕ). closingWith (a .rules .participants) i (a .participant) (a .side) (a .security) (a .lots)) (sym e3) in
           record {
             able = appendable _ _ _ _ b ready (a .participant) (a .side) (a .security) (a .lots) clear entry;
             does = λ m′ k′ b′ appends.

@@ -38,7 +38,7 @@ abbrev μ-loop : tie.MeasureT-loop
 
 -- the loop's own place
 abbrev looped : tie.After-without-orders Inv-loop μ-loop → tie.At-loop Inv-loop μ-loop
-looped w = w .before .before .before .before .before .before .before
+looped w = w .before .before .before .before .before .before .before .before
 
 loop-holds : tie.Need-loop-holds Inv-loop μ-loop
 loop-holds c =
@@ -53,9 +53,9 @@ command-at-requires c κs = search needs
 
 without-orders-requires : tie.Need-without-orders-requires Inv-loop μ-loop
 without-orders-requires c κs =
-    let l = c .before .before .before .before .before .before in
+    let l = c .before .before .before .before .before .before .before in
     let i = l .loop .inv in
-    askable (c .before .before .before .command-at .result .says) (c .before .before .before .command-at .result .members) _ _ _ _ _ (l .loop .trades) (i .0 .going .ready) (i .1)
+    askable (c .before .before .before .before .command-at .result .says) (c .before .before .before .before .command-at .result .members) _ _ _ _ _ (l .loop .trades) (i .0 .going .ready) (i .1)
 
 enum-known-verdict : tie.Need-enum-known-verdict Inv-loop μ-loop
 enum-known-verdict c = search needs
@@ -65,7 +65,7 @@ enum-known-verdict-2 c = search needs
 
 is-fillable-requires : tie.Need-is-fillable-requires Inv-loop μ-loop
 is-fillable-requires c κs =
-    let l = c .before .before .before .before .before .before .before .before .before .before in
+    let l = c .before .before .before .before .before .before .before .before .before .before .before in
     few-lots _ _ _ _ _ (l .loop .inv .0 .going .ready)
 
 slice-aggregate-enter : tie.Need-slice-aggregate-enter Inv-loop μ-loop
@@ -78,7 +78,7 @@ enter-requires c κs =
     let t = c .before .before .before in
     let v = t .before .before .before in
     let w = v .before .before in
-    let g = w .before .before .before .before .command-at .result in
+    let g = w .before .before .before .before .before .command-at .result in
     let l = looped w in
     can-enter (g .says) (g .members) _ _ _ _ (l .loop .book) (l .loop .trades) (l .loop .inv .0 .going .ready) (l .loop .inv .1)
     _ _ _ _ _ _ (w .without-orders .ensures) (v .verdict2 .given .1) (sym (t .before .is-fillable .ensures) ∙ t .if2 .taken)
@@ -100,7 +100,7 @@ listed c =
     let f = c .before .before .before in
     let v = f .before .before in
     let w = v .before .before in
-    let g = w .before .before .before .before .command-at .result in
+    let g = w .before .before .before .before .before .command-at .result in
     let l = looped w in
     known-security (g .says) (g .members) _ _ _ _ (l .loop .book) (l .loop .trades) (l .loop .inv .0 .going .ready) (l .loop .inv .1)
     _ _ _ _ _ (w .without-orders .ensures) (v .verdict3 .given .1) (f .find .ensures .0) (f .find .ensures .1)
@@ -118,7 +118,7 @@ leave-requires c κs =
     let f = k .before .before .before in
     let v = f .before .before in
     let w = v .before .before in
-    let g = w .before .before .before .before .command-at .result in
+    let g = w .before .before .before .before .before .command-at .result in
     let l = looped w in
     can-leave (g .says) (g .members) _ _ _ _ (l .loop .book) (l .loop .trades) (l .loop .inv .0 .going .ready) (l .loop .inv .1)
     _ _ _ _ _ (w .without-orders .ensures) (v .verdict3 .given .1) (f .find .ensures .0) (f .find .ensures .1)
@@ -134,7 +134,7 @@ append-requires : tie.Need-append-requires Inv-loop μ-loop
 append-requires c κs =
     let v = c .before .before .before in
     let w = v .before .before in
-    let g = w .before .before .before .before .command-at .result in
+    let g = w .before .before .before .before .before .command-at .result in
     let l = looped w in
     can-append (g .says) (g .members) _ _ _ _ (l .loop .book) (l .loop .trades) (l .loop .inv .0 .going .ready) (l .loop .inv .1)
     _ _ _ _ _ (w .without-orders .ensures) (v .verdict4 .given .1)
@@ -151,7 +151,7 @@ carry-out-requires : tie.Need-carry-out-requires Inv-loop μ-loop
 carry-out-requires c κs =
     let v = c .before .before .before .before .before in
     let w = v .before .before in
-    let g = w .before .before .before .before .command-at .result in
+    let g = w .before .before .before .before .before .command-at .result in
     let l = looped w in
     other-ready (g .says) (g .members) _ _ _ _ (l .loop .book) (l .loop .trades) (l .loop .inv .0 .going .ready) (l .loop .inv .1)
     _ _ _ _ (w .without-orders .ensures) (v .verdict5 .given .1)
@@ -160,7 +160,7 @@ carry-out-requires c κs =
 abbrev Did : tie.After-without-orders Inv-loop μ-loop → List ℕ → List ℕ → List ℕ → Carried → Type 0
 Did w m k t o =
     let l = looped w in
-    let g = w .before .before .before .before .command-at .result in
+    let g = w .before .before .before .before .before .command-at .result in
     let r = l .before .before .before .before .before .args .rules in
     Does (carried (dayOf r (l .loop .phase) (l .loop .money) (l .loop .pieces) (l .loop .book)) (g .says) (g .members)) r
     (l .loop .trades) m k t o
@@ -172,7 +172,7 @@ joined : (c : tie.At-match-came Inv-loop μ-loop)
 joined c =
     let w = c .before in
     let l = looped w in
-    let g = w .before .before .before .before .command-at .result in
+    let g = w .before .before .before .before .before .command-at .result in
     let ready = l .loop .inv .0 .going .ready in
     let lent = l .loop .inv .1 in
     let asks = w .without-orders .ensures in
@@ -221,7 +221,7 @@ goes : (w : tie.After-without-orders Inv-loop μ-loop) →
     let l = looped w in
     (l .loop .at < length (l .before .before .before .before .before .args .text .now)) × (l .loop .filled + room ≤ length (l .loop .out))
 goes w =
-    let t = w .before .before .before .before .before in
+    let t = w .before .before .before .before .before .before in
     goes-on-both _ _ _ _ (sym (t .before .goes-on .ensures) ∙ t .if1 .taken)
 
 put-command-requires : tie.Need-put-command-requires Inv-loop μ-loop
@@ -234,13 +234,13 @@ add-line : tie.Need-add-line Inv-loop μ-loop
 add-line c =
     let w = c .before .before .before .before .before .before .before in
     let g = (looped w) .loop .inv .0 .going in
-    let few = lines-few (w .before .before .before .before .command-at .ensures) in
+    let few = lines-few (w .before .before .before .before .before .command-at .ensures) in
     omega (arith, few, g .line, g .inside, g .short)
 
 loop-less : tie.Need-loop-less Inv-loop μ-loop
 loop-less c =
     let w = c .before .before .before .before .before .before .before in
-    let forward = w .before .before .before .before .command-at .ensures .forward ((goes w) .0) in
+    let forward = w .before .before .before .before .before .command-at .ensures .forward ((goes w) .0) in
     omega (arith, forward .0, forward .1)
 
 loop-again : tie.Need-loop-again Inv-loop μ-loop
@@ -250,8 +250,8 @@ loop-again c =
     let i = (looped w) .loop .inv in
     let j = joined m in
     let next =
-    command-next _ _ _ _ _ _ _ _ _ _ _ (w .before .before .before .before .command-at .result) _ _ (i .0 .going) ((goes w) .0)
-    ((goes w) .1) (w .before .before .before .before .command-at .ensures) j (c .before .before .before .put-command .ensures) in
+    command-next _ _ _ _ _ _ _ _ _ _ _ (w .before .before .before .before .before .command-at .result) _ _ (i .0 .going) ((goes w) .0)
+    ((goes w) .1) (w .before .before .before .before .before .command-at .ensures) j (c .before .before .before .put-command .ensures) in
     (onward-then (i .0) next, j .size ∙ i .1, omega (arith, next .size, i .2))
 
 same-length : tie.Need-same-length Inv-loop μ-loop

@@ -3,6 +3,7 @@
 use Prim.Native.Nat.{ℕ, _≤_, _<_}
 use native.Mathlib.Omega.{arith}
 use mathlib.Core.Path.{refl, ap, sym, subst, _∙_}
+use mathlib.Core.List.{List}
 use borrow.Author.Needs.{needs}
 use lib.ListN.{length}
 use Rattle.market.specs.declared.Access.{Access}
@@ -11,7 +12,7 @@ use Rattle.market.specs.Limits.{lentAtLeast, maxSecurities}
 use Rattle.commands.specs.Command.{carried}
 use Rattle.orders.specs.Entering.{EntryNo, entryWith}
 use Rattle.orders.proofs.Calling.{appendable, collects-whole, order-waits, refuse-first}
-use Rattle.commands.proofs.Carrying.{does-call, entry-listed, entry-none}
+use Rattle.commands.proofs.Carrying.{does-call, entry-listed, entry-none, entry-owned}
 use Rattle.commands.proofs.order_asked.Statement.{statement}
 use Rattle.commands.proofs.order_asked.Tie as tie
 
@@ -65,7 +66,11 @@ array-copy-out-row : tie.Need-array-copy-out-row
 array-copy-out-row c = listed (c .before)
 
 entry-of-requires : tie.Need-entry-of-requires
-entry-of-requires c κs = search needs
+entry-of-requires c κs =
+    let e = c .before .before in
+    let a = (start e) .args in
+    entry-owned (a .rules) (a .phase) (a .turnovers) (a .count) (a .codes) (a .money .now) (a .pieces .now) (a .participant)
+    (a .ticket) (orderAccess (a .force)) (a .force) ((start e) .pre) (none e)
 
 is-collecting-requires : tie.Need-is-collecting-requires
 is-collecting-requires c κs = search needs
@@ -83,13 +88,13 @@ returns-2 c =
       λ b l ms e1 e2 e3 ready n.
           let clear = sym (none e b e1 e2 e3) in
           let lent : lentAtLeast ≤ length l = omega (arith, n) in
-          let entry = o .entry-of .ensures ∙ ap (λ (i : ℕ). entryWith i (a .participant) (a .ticket)) (sym e3) in
-          let whole = collects-whole _ _ _ _ b ready (a .participant) (a .ticket) (a .force) l lent clear collects _ in
+          let entry = o .entry-of .ensures ∙ ap (λ (i : List ℕ). entryWith (a .rules .participants) i (a .participant) (a .ticket)) (sym e3) in
+          let whole = collects-whole _ _ _ _ b ready (a .participant) (a .ticket) (a .force) l lent clear collects in
           record {
-            able = appendable _ _ _ _ b ready (a .participant) (a .ticket) (a .force) l lent clear entry whole collects;
+            able = appendable _ _ _ _ b ready (a .participant) (a .ticket) (a .force) l lent clear whole entry collects;
             does = λ m′ k′ b′ appends.
                 does-call _ _ _ _ b l _ m′ k′ l _ ready n
-                (order-waits _ _ _ _ b ready (a .participant) (a .ticket) (a .force) l lent clear entry whole collects m′ k′ b′
+                (order-waits _ _ _ _ b ready (a .participant) (a .ticket) (a .force) l lent clear whole entry collects m′ k′ b′
                 appends);
           },
     )

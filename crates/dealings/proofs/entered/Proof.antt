@@ -3,15 +3,15 @@ use borrow.Author.Needs.{needs}
 use native.Mathlib.Omega.{arith}
 use Prim.Native.Nat.{_<_}
 use Rattle.market.specs.Limits.{maxSecurities}
-use Rattle.dealings.proofs.Offering.{deals-left, in-table, narrows, offer-done, offerable, readable}
+use Rattle.dealings.proofs.Offering.{deals-left, in-table, narrows, numberable, offer-done, offerable, readable}
 use Rattle.dealings.proofs.entered.Statement.{statement}
 use Rattle.dealings.proofs.entered.Tie as tie
 
 offer-of-requires : tie.Need-offer-of-requires
-offer-of-requires c κs = narrows (c .before .pre)
+offer-of-requires c κs = let p = c .before .before .pre in (numberable p, narrows p)
 
 abbrev start : tie.After-offer-of → tie.Start
-start c = c .before .before
+start c = c .before .before .before
 
 listed : (c : tie.After-offer-of) → (start c) .args .ticket .security < maxSecurities
 listed c = in-table ((start c) .pre)

@@ -8,7 +8,7 @@ use Rattle.market.specs.Deals.{loanSound, termSound}
 use Rattle.market.proofs.Known.{price-bounds}
 use Rattle.amounts.proofs.Answers.{fails, holds}
 use Rattle.waiting.specs.Claims.{coveredBy}
-use Rattle.dealings.specs.Asking.{offerWith}
+use Rattle.dealings.specs.Asking.{offerClaim}
 use Rattle.dealings.proofs.Asking.{narrow, reckonable}
 use Rattle.dealings.proofs.later_no.Statement.{statement}
 use Rattle.dealings.proofs.later_no.Tie as tie
@@ -89,29 +89,28 @@ returns-6 c =
 abbrev behind : tie.Else6 → tie.Else3
 behind c = c .before .before .before
 
-offer-of-requires : tie.Need-offer-of-requires
-offer-of-requires c κs =
+offer-claim-requires : tie.Need-offer-claim-requires
+offer-claim-requires c κs =
     let three = behind c in
     let two = three .before .before in
-    let b = start three in
-    narrow _ _ _ _ _ _ _ (b .pre .given) (short two) (loaned three)
+    narrow _ _ _ _ _ _ (short two) (loaned three)
 
 covers-requires : tie.Need-covers-requires
 covers-requires c κs =
     let three = behind (c .before) in
     let b = start three in
-    rw (c .offer-of .ensures)
+    rw (c .offer-claim .ensures)
     (reckonable (b .args .listing) (b .args .turnover) (b .args .rate) (b .args .term) (b .pre) (priced (three .before .before .before .before)))
 
--- question 14 is asked of the definition's offer
+-- question 14 is asked of the claim
 asked : (c : tie.After-covers) →
     let a = (start (behind (c .before .before))) .args in
     c .covers .result
-    ≡ coveredBy (a .listing) (a .turnover) (offerWith (a .codes) (a .participant) (a .ticket) (a .rate) (a .term)) (a .money .now) (a .pieces .now)
+    ≡ coveredBy (a .listing) (a .turnover) (offerClaim (a .participant) (a .ticket) (a .rate) (a .term)) (a .money .now) (a .pieces .now)
 asked c =
     let a = (start (behind (c .before .before))) .args in
     c .covers .ensures
-    ∙ ap (λ o. coveredBy (a .listing) (a .turnover) o (a .money .now) (a .pieces .now)) (c .before .offer-of .ensures)
+    ∙ ap (λ o. coveredBy (a .listing) (a .turnover) o (a .money .now) (a .pieces .now)) (c .before .offer-claim .ensures)
 
 returns-7 : tie.Need-returns-7
 returns-7 c =
@@ -160,7 +159,7 @@ later-no-spec =
     returns-4
     returns-5
     returns-6
-    offer-of-requires
+    offer-claim-requires
     covers-requires
     returns-7
     returns-8)

@@ -38,7 +38,7 @@ returns-3 c =
 
 returns-4 : tie.Need-returns-4
 returns-4 c =
-    let three = c .before in
+    let three = c .before .before in
     let two = three .before in
     let e = two .before .before in
     λ r m k v ready. day-begins r _ m k _ _ ready _ v (holds (e .before .admits .ensures) (e .if1 .left)) (two .if2 .left) (three .if3 .left)

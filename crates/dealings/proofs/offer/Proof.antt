@@ -22,10 +22,10 @@ abbrev start : tie.Else1 → tie.Start
 start c = c .before .before
 
 offer-no-requires : tie.Need-offer-no-requires
-offer-no-requires c κs = known ((start (c .before .before .before)) .pre)
+offer-no-requires c κs = known ((start (c .before .before .before .before)) .pre)
 
 abbrev lent : tie.After-offer-no → tie.Else1
-lent c = c .before .before .before .before
+lent c = c .before .before .before .before .before
 
 -- the number is that of the ledger's questions
 first : (c : tie.After-offer-no) →

@@ -8,9 +8,10 @@ use lib.ListN.{length}
 use borrow.Author.Needs.{needs}
 use Rattle.market.specs.Limits.{lentAtLeast, maxMembers, numbersPerTrade}
 use Rattle.market.specs.Linked.{stopped}
-use Rattle.linked.proofs.Turns.{From, Tells, Turn, code-before, codes-fit, few-members, known, tells-done}
+use Rattle.codes.proofs.Numbers.{own-count}
+use Rattle.linked.proofs.Turns.{From, Tells, Turn, few-members, known, numbers, tells-done}
 use Rattle.linked.proofs.Turns.{tells-no, turn-enters, turn-first, turn-long, turn-room, turn-stops, turn-sums}
-use Rattle.linked.proofs.Turns.{turns-end, whole}
+use Rattle.linked.proofs.Turns.{turns-end, turns-owner, whole}
 use Rattle.linked.proofs.members_in_turn.Statement.{statement}
 use Rattle.linked.proofs.members_in_turn.Tie as tie
 
@@ -99,8 +100,8 @@ at c = c .before .loop .made * 8
 here : (c : tie.In-loop Inv-loop μ-loop) → at c ≡ numbersPerTrade * c .before .loop .made
 here c = omega arith
 
-add-t40 : tie.Need-add-t40 Inv-loop μ-loop
-add-t40 c = omega (arith, place (inside c))
+add-t43 : tie.Need-add-t43 Inv-loop μ-loop
+add-t43 c = omega (arith, place (inside c))
 
 element-copy-out-row : tie.Need-element-copy-out-row Inv-loop μ-loop
 element-copy-out-row c =
@@ -112,13 +113,17 @@ mul-row : tie.Need-mul-row Inv-loop μ-loop
 mul-row c = let h = element-copy-out-row c in omega (arith, h)
 
 entry-of-requires : tie.Need-entry-of-requires Inv-loop μ-loop
-entry-of-requires c κs = codes-fit ((inside (c .before .before)) .before .loop .inv)
+entry-of-requires c κs =
+    let y = c .before .before in
+    let d = y .before in
+    let k = inside d in
+    numbers (k .before .loop .inv) _ (k .loop-test .taken) (d .first-no .result) (d .first-no .ensures) (y .if1 .taken)
 
 mul-enter : tie.Need-mul-enter Inv-loop μ-loop
-mul-enter c = omega (arith, room (inside (c .before .before .before .before .before)))
+mul-enter c = omega (arith, room (inside (c .before .before .before .before .before .before)))
 
 sub-enter : tie.Need-sub-enter Inv-loop μ-loop
-sub-enter c = omega (arith, lent (inside (c .before .before .before .before .before)))
+sub-enter c = omega (arith, lent (inside (c .before .before .before .before .before .before)))
 
 part-enter-start : tie.Need-part-enter-start Inv-loop μ-loop
 part-enter-start c = sub-enter c
@@ -129,7 +134,7 @@ part-enter-end c = search needs
 enter-requires : tie.Need-enter-requires Inv-loop μ-loop
 enter-requires c κs =
     let o = c .before .before .before in
-    let y = o .before .before in
+    let y = o .before .before .before in
     let d = y .before in
     let k = inside d in
     turn-enters (k .before .loop .inv) _ (k .loop-test .taken) (d .first-no .result) (d .first-no .ensures) (y .if1 .taken)
@@ -146,9 +151,9 @@ told c =
     let k = inside d in
     ⊎-elim
     (λ w.
-    rw (w .9, w .10, w .11, w .12, w .13)
+    rw (w .10, w .11, w .12, w .13, w .14)
     (tells-done (k .before .loop .inv) _ (k .loop-test .taken) (d .first-no .result) (d .first-no .ensures) (w .0 .taken)
-    (at k) (here k) (w .2 .ensures) (w .6 .ensures)))
+    (at k) (here k) (w .3 .ensures) (w .7 .ensures)))
     (λ w.
     rw (w .1, w .2, w .3, w .4, w .5)
     (tells-no (k .before .loop .inv) _ (k .loop-test .taken) (d .first-no .result) (d .first-no .ensures)
@@ -232,16 +237,15 @@ loop-less c =
 loop-again : tie.Need-loop-again Inv-loop μ-loop
 loop-again c = goes (c .before)
 
-add-t55 : tie.Need-add-t55 Inv-loop μ-loop
-add-t55 c =
-    let b = start (c .before .before) in
-    omega (arith, code-before (from b) (b .pre))
+next-code-requires : tie.Need-next-code-requires Inv-loop μ-loop
+next-code-requires c κs = own-count (turns-owner (c .before .before .loop .inv) (c .before .loop-test .left))
 
 same-length-2 : tie.Need-same-length-2 Inv-loop μ-loop
-same-length-2 c = turn-long (c .before .before .loop .inv)
+same-length-2 c = turn-long (c .before .before .before .loop .inv)
 
 returns-2 : tie.Need-returns-2 Inv-loop μ-loop
-returns-2 c = turns-end (c .before .before .loop .inv) (c .before .loop-test .left)
+returns-2 c =
+    turns-end (c .before .before .before .loop .inv) (c .before .before .loop-test .left) (c .next-code .result) (c .next-code .ensures)
 
 pub members-in-turn-spec : {M : Type 1} → statement M
 members-in-turn-spec =
@@ -255,7 +259,7 @@ members-in-turn-spec =
     mul-member
     array-copy-out-member
     first-no-requires
-    add-t40
+    add-t43
     mul-row
     element-copy-out-row
     entry-of-requires
@@ -274,6 +278,6 @@ members-in-turn-spec =
     add-i
     loop-less
     loop-again
-    add-t55
+    next-code-requires
     same-length-2
     returns-2)

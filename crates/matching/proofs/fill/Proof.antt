@@ -4,7 +4,7 @@ use Prim.Native.Nat.{ℕ, _+_, _-_, _*_, _≤_, _<_, min}
 use native.Mathlib.Nat.{min-le-left}
 use native.Mathlib.Omega.{arith}
 use mathlib.Core.Path.{_∙_, _≡_, ap, refl, subst, sym}
-use mathlib.Core.List.{[]}
+use mathlib.Core.List.{List, []}
 use mathlib.Core.Logic.{⊎-elim}
 use lib.ListN.{length, set}
 use borrow.Author.Needs.{needs}
@@ -20,7 +20,7 @@ use Rattle.matching.specs.Orders.{coded, waitingIn}
 use Rattle.matching.specs.Search.{rank, top}
 use Rattle.matching.proofs.First.{first-at}
 use Rattle.matching.proofs.Going.{Going, best-lots, found-price, going-ends, going-lent, going-less, going-next}
-use Rattle.matching.proofs.Going.{going-index, going-ready, going-room, going-security, going-starts}
+use Rattle.matching.proofs.Going.{going-index, going-participant, going-ready, going-room, going-security, going-starts}
 use Rattle.matching.proofs.Removal.{Moved, Off, moved-next, moved-starts, off-filled, off-less}
 use Rattle.matching.proofs.Search.{Seeks, rank-below, seek-found, seek-none, seek-starts, seek-stays, seek-takes}
 use Rattle.matching.proofs.fill.Statement.{statement}
@@ -35,7 +35,7 @@ abbrev μ-search : tie.MeasureT-search
 
 abbrev Inv-loop : tie.InvT-loop
 Inv-loop e listing money pieces trades book₀ security left made side reach count best bound i at lots last j₀ book j =
-    (book .turnover ≡ book₀ .turnover) × Moved (book₀ .orders) (book .orders) at last j
+    ((book .codes ≡ book₀ .codes) × (book .turnover ≡ book₀ .turnover)) × Moved (book₀ .orders) (book .orders) at last j
 
 abbrev μ-loop : tie.MeasureT-loop
 μ-loop e listing money pieces trades book₀ security left made side reach count best bound i at lots last j₀ book j = last - j
@@ -232,6 +232,7 @@ counted c =
       filled = b .filled;
       left = b .left;
       trades = b .trades;
+      code = b .code;
     }
 
 roomy : (c : Done) → (counted c) .count ≤ length ((counted c) .orders)
@@ -250,7 +251,7 @@ loop-holds : tie.Need-loop-holds Inv-search μ-search Inv-loop μ-loop Inv-fill 
 loop-holds c =
     let k = here (c .before) in
     let b = (turn k) .fill .book in
-    (refl, moved-starts (b .orders) (at k) (b .count - 1) (omega (arith, index k)))
+    ((refl, refl), moved-starts (b .orders) (at k) (b .count - 1) (omega (arith, index k)))
 
 -- the order that moves stands in the array
 moves : (c : tie.In-loop Inv-search μ-search Inv-loop μ-loop Inv-fill μ-fill) → c .before .loop .j + 1 < maxWaiting
@@ -308,11 +309,16 @@ off c =
     ⊎-elim
     (λ w.
     subst (Off (counted d) (at k) n) (sym (w .3))
-    (off-filled (counted d) (at k) n (index k) (roomy d) (w .0 .taken) (w .1 .inv .1) (w .2 .left) _ refl refl (w .1 .inv .0)))
+    (off-filled (counted d) (at k) n (index k) (roomy d) (w .0 .taken) (w .1 .inv .1) (w .2 .left) _ refl refl (w .1 .inv .0 .0) (w .1 .inv .0 .1)))
     (λ w.
     subst (Off (counted d) (at k) n) (sym (w .3))
-    (off-less (counted d) (at k) n (index k) (roomy d) (w .0 .left) (w .2 .result) (w .2 .ensures) _ refl refl refl))
+    (off-less (counted d) (at k) n (index k) (roomy d) (w .0 .left) (w .2 .result) (w .2 .ensures) _ refl refl refl refl))
     (c .if4 .came)
+
+-- the entry's code on top of the codes that the turn began with
+given-on : (k : Here) {l : List ℕ} → l ≡ (turn k) .fill .book .codes →
+    let e = (start k) .args .e in set l (e .participant) (e .code) ≡ (coded ((turn k) .fill .book) e) .codes
+given-on k h = let e = (start k) .args .e in ap (λ (l : List ℕ). set l (e .participant) (e .code)) h
 
 sub-left : tie.Need-sub-left Inv-search μ-search Inv-loop μ-loop Inv-fill μ-fill
 sub-left c = rw (part ((sized (c .before .before)) .before)) (min-le-left _ _)
@@ -328,8 +334,8 @@ fill-less c =
     let k = w .before .before .before in
     let o = off c in
     going-less (going (turn k)) (at k) (some k) (found-at k) (w .with-lots .ensures) (other k) (part (w .before))
-    (coded (c .if4 .book) ((start k) .args .e)) (c .before .before .before .before .trade-with .ensures) (o .waiting) refl
-    (o .turnover) (lent k)
+    (coded (c .if4 .book) ((start k) .args .e)) (c .before .before .before .before .trade-with .ensures) (o .waiting)
+    (given-on k (o .codes)) (o .turnover) (lent k)
 
 fill-again : tie.Need-fill-again Inv-search μ-search Inv-loop μ-loop Inv-fill μ-fill
 fill-again c =
@@ -340,8 +346,14 @@ fill-again c =
       λ r f.
           going-next ((turn k) .fill .inv .1 r f) (at k) (some k) (found-at k) (w .with-lots .ensures) (other k)
           (part (w .before)) (coded (c .if4 .book) ((start k) .args .e)) (c .before .before .before .before .trade-with .ensures)
-          (o .waiting) refl (o .turnover) (lent k),
+          (o .waiting) (given-on k (o .codes)) (o .turnover) (lent k),
     )
+
+mul-book : tie.Need-mul-book Inv-search μ-search Inv-loop μ-loop Inv-fill μ-fill
+mul-book c = omega (arith, going-participant (going (c .before)))
+
+element-write-book : tie.Need-element-write-book Inv-search μ-search Inv-loop μ-loop Inv-fill μ-fill
+element-write-book c = going-participant (going (c .before))
 
 sub-book : tie.Need-sub-book Inv-search μ-search Inv-loop μ-loop Inv-fill μ-fill
 sub-book c = (going (c .before .before)) .less
@@ -361,7 +373,7 @@ returns c = λ r g.
     (best-lots e (f .left) (waitingIn (f .book))
     ∙ seek-none (w .1 .inv) (w .2 .taken) (w .3 .taken)))
     (c .before .fill-test .came) in
-    going-ends (f .inv .1 r g) over _ refl refl refl refl
+    going-ends (f .inv .1 r g) over _ refl refl refl refl refl
 
 pub fill-spec : {M : Type 1} → statement M
 fill-spec =
@@ -413,6 +425,8 @@ fill-spec =
     add-made
     fill-less
     fill-again
+    mul-book
+    element-write-book
     sub-book
     same-length
     returns)

@@ -14,7 +14,8 @@ use Rattle.offers.proofs.first_part.Tie as tie
 
 abbrev Inv-loop : tie.InvT-loop
 Inv-loop at money pieces trades book₀ last entry price rest i₀ book i =
-    (book .codes ≡ book₀ .codes) × (book .turnover ≡ book₀ .turnover) × Moved (book₀ .orders) (book .orders) at rest i
+    (book .codes ≡ book₀ .codes) × (book .turnover ≡ book₀ .turnover) × (book .code ≡ book₀ .code)
+    × Moved (book₀ .orders) (book .orders) at rest i
 
 abbrev μ-loop : tie.MeasureT-loop
 μ-loop at money pieces trades book₀ last entry price rest i₀ book i = rest - i
@@ -83,7 +84,7 @@ sub-rest c = omega (arith, behind (first c))
 loop-holds : tie.Need-loop-holds Inv-loop μ-loop
 loop-holds c =
     let a = (first c) .args in
-    (refl, refl, moved-starts (a .b .orders) (a .at) (a .b .count - 1 - 1) (omega (arith, behind (first c))))
+    (refl, refl, refl, moved-starts (a .b .orders) (a .at) (a .b .count - 1 - 1) (omega (arith, behind (first c))))
 
 -- the order that moves stands in the array
 moves : (c : tie.In-loop Inv-loop μ-loop) → c .before .loop .i + 1 < maxWaiting
@@ -116,7 +117,8 @@ loop-again c =
     let s = first (c .before .before .before) in (
       l .inv .0,
       l .inv .1,
-      moved-next (l .inv .2) (omega (arith, roomy s, behind s)) _ (c .before .loop-test .taken),
+      l .inv .2,
+      moved-next (l .inv .3) (omega (arith, roomy s, behind s)) _ (c .before .loop-test .taken),
     )
 
 same-length : tie.Need-same-length Inv-loop μ-loop
@@ -134,8 +136,8 @@ returns c = λ r x w e facing.
     let s = start k in
     let l = c .before .loop in
     met-done facing (s .args .trades .now) (s .pre .lent) (k .before .before .if-buy .ensures) (k .before .if-buy2 .ensures)
-    (k .offer-price .ensures) (t .before .before .execute .ensures) (roomy s) (l .inv .2) (c .loop-test .left) _ refl refl
-    (l .inv .0) (l .inv .1) refl refl refl
+    (k .offer-price .ensures) (t .before .before .execute .ensures) (roomy s) (l .inv .3) (c .loop-test .left) _ refl refl
+    (l .inv .0) (l .inv .1) refl refl refl (l .inv .2)
 
 pub first-part-spec : {M : Type 1} → statement M
 first-part-spec =

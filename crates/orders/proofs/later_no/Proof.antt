@@ -3,7 +3,7 @@ use mathlib.Core.Path.{_≡_, ap, _∙_}
 use borrow.Author.Tests.{le-ltb, lt-ltb}
 use Rattle.amounts.proofs.Answers.{fails, holds}
 use Rattle.waiting.specs.Claims.{coveredBy}
-use Rattle.orders.specs.Entering.{entryWith}
+use Rattle.orders.specs.Entering.{claimWith}
 use Rattle.orders.proofs.Asking.{reckonable}
 use borrow.Author.Needs.{needs}
 use Rattle.orders.proofs.later_no.Statement.{statement}
@@ -33,26 +33,26 @@ returns-3 c =
       le-ltb _ _ (c .if3 .taken),
     )
 
-entry-of-requires : tie.Need-entry-of-requires
-entry-of-requires c κs = search needs
+claim-of-requires : tie.Need-claim-of-requires
+claim-of-requires c κs = search needs
 
 covers-requires : tie.Need-covers-requires
 covers-requires c κs =
     let p = c .before .before .before .before in
     let b = p .before .before in
-    rw (c .entry-of .ensures)
+    rw (c .claim-of .ensures)
     (reckonable (b .args .listing) (b .args .turnover) (b .pre) (holds (p .before .price-sound .ensures) (p .if1 .left)))
 
--- question 14 is asked of the definition's entry
+-- question 14 is asked of the claim
 asked : (c : tie.After-covers) →
     let b = c .before .before .before .before .before .before .before in
     let a = b .args in
     c .covers .result
-    ≡ coveredBy (a .listing) (a .turnover) (entryWith (a .codes) (a .participant) (a .member)) (a .money .now) (a .pieces .now)
+    ≡ coveredBy (a .listing) (a .turnover) (claimWith (a .participant) (a .member)) (a .money .now) (a .pieces .now)
 asked c =
     let a = c .before .before .before .before .before .before .before .args in
     c .covers .ensures
-    ∙ ap (λ o. coveredBy (a .listing) (a .turnover) o (a .money .now) (a .pieces .now)) (c .before .entry-of .ensures)
+    ∙ ap (λ o. coveredBy (a .listing) (a .turnover) o (a .money .now) (a .pieces .now)) (c .before .claim-of .ensures)
 
 returns-4 : tie.Need-returns-4
 returns-4 c =
@@ -87,7 +87,7 @@ later-no-spec =
     has-room-requires
     returns-2
     returns-3
-    entry-of-requires
+    claim-of-requires
     covers-requires
     returns-4
     returns-5)

@@ -469,6 +469,7 @@ left c =
       filled = b .filled + (sized (traded c)) .lesser .result;
       left = b .left;
       trades = b .trades;
+      code = b .code;
     }
 
 waits : (c : Gone) →

@@ -2,10 +2,10 @@
 use Prim.Native.Nat.{_<_}
 use native.Mathlib.Omega.{arith}
 use mathlib.Core.Path.{_≡_}
-use Rattle.market.specs.Limits.{maxSecurities}
+use Rattle.market.specs.Limits.{maxParticipants, maxSecurities}
 use Rattle.market.specs.Questions.{firstNo}
 use Rattle.session.specs.Asking.{earlyClosing}
-use Rattle.session.proofs.Asking.{in-rules, no-early, no-later, reckonable}
+use Rattle.session.proofs.Asking.{in-counts, in-rules, no-early, no-later, reckonable}
 use borrow.Author.Needs.{needs}
 use Rattle.session.proofs.closing_no.Statement.{statement}
 use Rattle.session.proofs.closing_no.Tie as tie
@@ -17,7 +17,7 @@ returns : tie.Need-returns
 returns c =
     let e = c .before in
     let a = e .before .args in
-    no-early (a .rules) (a .phase) (a .codes) (a .participant) (a .side) (a .security) (a .lots) (a .t3) (a .count) (a .money .now)
+    no-early (a .rules) (a .phase) (a .t5) (a .participant) (a .side) (a .security) (a .lots) (a .t3) (a .count) (a .money .now)
     (a .pieces .now) (e .early-closing-no .result) (c .if1 .taken) (e .early-closing-no .ensures)
 
 -- behind question 7
@@ -33,7 +33,7 @@ listed : (c : tie.Else1) → (start c) .args .security < maxSecurities
 listed c =
     let b = start c in
     let a = b .args in
-    in-rules (a .rules) (a .phase) (a .codes) (a .participant) (a .side) (a .security) (a .lots) (b .pre) (none c)
+    in-rules (a .rules) (a .phase) (a .t5) (a .participant) (a .side) (a .security) (a .lots) (b .pre) (none c)
 
 mul-row : tie.Need-mul-row
 mul-row c = omega (arith, listed (c .before))
@@ -47,16 +47,28 @@ mul-turnover c = omega (arith, listed (c .before .before))
 array-copy-out-turnover : tie.Need-array-copy-out-turnover
 array-copy-out-turnover c = listed (c .before .before)
 
-closing-order-requires : tie.Need-closing-order-requires
-closing-order-requires c κs = search needs
+own : (c : tie.Else1) → (start c) .args .participant < maxParticipants
+own c =
+    let b = start c in
+    let a = b .args in
+    in-counts (a .rules) (a .phase) (a .t5) (a .participant) (a .side) (a .security) (a .lots) (b .pre) (none c)
+
+mul-own : tie.Need-mul-own
+mul-own c = omega (arith, own (c .before .before .before))
+
+array-read-own : tie.Need-array-read-own
+array-read-own c = own (c .before .before .before)
+
+closing-claim-requires : tie.Need-closing-claim-requires
+closing-claim-requires c κs = search needs
 
 later-closing-no-requires : tie.Need-later-closing-no-requires
 later-closing-no-requires c κs =
     let k = c .before .before .before .before in
     let b = start k in
     let a = b .args in
-    reckonable (a .rules) (a .phase) (a .codes) (a .participant) (a .side) (a .security) (a .lots) (b .pre) (none k)
-    (c .closing-order .ensures)
+    reckonable (a .rules) (a .phase) (a .t5) (a .participant) (a .side) (a .security) (a .lots) (b .pre) (none k)
+    (c .closing-claim .ensures)
 
 returns-2 : tie.Need-returns-2
 returns-2 c =
@@ -64,8 +76,8 @@ returns-2 c =
     let k = o .before .before .before .before in
     let b = start k in
     let a = b .args in
-    no-later (a .rules) (a .phase) (a .codes) (a .participant) (a .side) (a .security) (a .lots) (b .pre) (none k)
-    (o .closing-order .ensures) (a .count) (a .money .now) (a .pieces .now) (c .later-closing-no .result)
+    no-later (a .rules) (a .phase) (a .t5) (a .participant) (a .side) (a .security) (a .lots) (b .pre) (none k)
+    (o .closing-claim .ensures) (a .count) (a .money .now) (a .pieces .now) (c .later-closing-no .result)
     (c .later-closing-no .ensures)
 
 pub closing-no-spec : {M : Type 1} → statement M
@@ -78,6 +90,8 @@ closing-no-spec =
     array-copy-out-row
     mul-turnover
     array-copy-out-turnover
-    closing-order-requires
+    mul-own
+    array-read-own
+    closing-claim-requires
     later-closing-no-requires
     returns-2)

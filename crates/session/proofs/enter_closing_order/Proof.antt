@@ -5,14 +5,14 @@ use mathlib.Core.Path.{_≡_, refl}
 use Rattle.market.specs.Limits.{maxSecurities}
 use Rattle.market.specs.View.{dayOf}
 use Rattle.market.specs.Questions.{closingQuestions, firstNo}
-use Rattle.session.proofs.Asking.{appendable, appended, askable, in-table, refuse}
+use Rattle.session.proofs.Asking.{appendable, appended, askable, in-table, numberable, refuse}
 use borrow.Author.Needs.{needs}
 use Rattle.session.proofs.enter_closing_order.Statement.{statement}
 use Rattle.session.proofs.enter_closing_order.Tie as tie
 
 closing-no-requires : tie.Need-closing-no-requires
 closing-no-requires c κs =
-    let b = c .before .before .before in
+    let b = c .before .before .before .before in
     let a = b .args in
     askable (a .rules) (a .phase) (a .money .now) (a .pieces .now) (a .b) (b .pre)
 
@@ -20,7 +20,7 @@ declined-requires : tie.Need-declined-requires
 declined-requires c κs = search needs
 
 abbrev start : tie.After-closing-no → tie.Start
-start c = c .before .before .before .before
+start c = c .before .before .before .before .before
 
 -- the number is that of the day's questions
 first : (c : tie.After-closing-no) →
@@ -50,7 +50,8 @@ closing-order-requires : tie.Need-closing-order-requires
 closing-order-requires c κs =
     let b = start (c .before) in
     let a = b .args in
-    (askable (a .rules) (a .phase) (a .money .now) (a .pieces .now) (a .b) (b .pre)) .codes
+    numberable (a .rules) (a .phase) (a .money .now) (a .pieces .now) (a .b) (b .pre) (a .participant) (a .side) (a .security)
+    (a .lots) (none c)
 
 listed : (c : tie.Else1) → (start (c .before)) .args .security < maxSecurities
 listed c =

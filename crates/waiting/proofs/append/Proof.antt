@@ -3,7 +3,7 @@ use Prim.Native.Nat.{_<_}
 use native.Mathlib.Omega.{arith}
 use Rattle.market.specs.Limits.{maxWaiting}
 use Rattle.market.proofs.Sized.{sized-book}
-use Rattle.waiting.proofs.Appending.{append-blocks, append-done, append-room, append-security}
+use Rattle.waiting.proofs.Appending.{append-blocks, append-done, append-participant, append-room, append-security}
 use Rattle.waiting.proofs.append.Statement.{statement}
 use Rattle.waiting.proofs.append.Tie as tie
 
@@ -31,6 +31,12 @@ element-set-from-o c = room c
 add-book : tie.Need-add-book
 add-book c = omega (arith, room c)
 
+mul-book : tie.Need-mul-book
+mul-book c = omega (arith, append-participant ((start c) .pre .admits))
+
+element-write-book : tie.Need-element-write-book
+element-write-book c = append-participant ((start c) .pre .admits)
+
 returns : tie.Need-returns
 returns c = λ r x a.
     let b = start c in
@@ -47,4 +53,6 @@ append-spec =
     mul-o
     element-set-from-o
     add-book
+    mul-book
+    element-write-book
     returns)

@@ -1,10 +1,8 @@
 //! The book's part in repurchase deals: offers and first parts, from which the
 //! open deals come, second parts, new days.
 
-use super::{expect, known, sum_of, Book, BookedTrades, Checked};
-use crate::calls::{
-    Deal, Done, Offer, Phase, SecurityLine, Side, Trade, WaitingKind, WaitingOrder,
-};
+use super::{expect, known, sum_of, Book, BookedOrder, BookedTrades, Checked};
+use crate::calls::{Deal, Done, Offer, Phase, SecurityLine, Side, Trade, WaitingKind};
 
 /// Days from 1 January 1970 to 31 December 2369.
 const TABLE: u64 = 146_097;
@@ -57,9 +55,9 @@ fn second_sum(first_sum: i128, deal: &Deal) -> i128 {
 impl Book {
     /// An offer waits like a kept order, until a first part takes its lots off.
     pub(super) fn keep_offer(&mut self, offer: &Offer, code: u64) -> Checked {
-        let order = WaitingOrder {
-            code,
+        let order = BookedOrder {
             participant: known(offer.participant, self.participants, "participant")?,
+            code,
             side: offer.side,
             security: known(offer.security, self.securities.len(), "security")?,
             lots: offer.lots,
@@ -140,7 +138,7 @@ impl Book {
         })
     }
 
-    fn first_part(&self, offer: &Offer, code: u64, counter: &WaitingOrder) -> Trade {
+    fn first_part(&self, offer: &Offer, code: u64, counter: &BookedOrder) -> Trade {
         let line = self.securities[counter.security];
         let pieces = i128::from(offer.lots) * i128::from(line.lot_size);
         let own = (code, offer.participant);
@@ -208,7 +206,7 @@ impl Book {
     }
 }
 
-fn is_counter(order: &WaitingOrder, offer: &Offer) -> bool {
+fn is_counter(order: &BookedOrder, offer: &Offer) -> bool {
     order.kind == WaitingKind::Offer(offer.terms)
         && order.side != offer.side
         && order.security as u64 == offer.security

@@ -66,8 +66,8 @@ impl Engine {
         }
     }
 
-    /// Dearest buy with cheapest sell, of equal prices the lower code, as long
-    /// as both reach the auction's price. Sorting keeps the order of equals.
+    /// Dearest buy with cheapest sell, of equal prices the earlier arrival, as
+    /// long as both reach the auction's price. Sorting keeps the order of equals.
     pub(super) fn pair_auction(&mut self, security: usize, trades: &mut Vec<Trade>) {
         let Some(price) = self.auction_price(security) else {
             return;

@@ -52,7 +52,8 @@ impl Engine {
             ensure(self.state.waiting.len() < WAITING_LIMIT, refusal::BOOK_FULL)?;
         }
         let order = WaitingOrder {
-            code: self.next_code()?,
+            code: self.next_code(participant)?,
+            arrival: self.next_arrival(),
             participant,
             side: entry.side,
             security,
@@ -85,7 +86,8 @@ impl Engine {
         ensure(traded.pieces > 0, refusal::NOTHING_TRADED)?;
         ensure(self.state.waiting.len() < WAITING_LIMIT, refusal::BOOK_FULL)?;
         let order = WaitingOrder {
-            code: self.next_code()?,
+            code: self.next_code(participant)?,
+            arrival: self.next_arrival(),
             participant,
             side: entry.side,
             security,
@@ -112,7 +114,8 @@ impl Engine {
         ensure(self.state.waiting.len() < WAITING_LIMIT, refusal::BOOK_FULL)?;
         ensure(self.state.deals.len() < DEAL_LIMIT, refusal::DEALS_FULL)?;
         let order = WaitingOrder {
-            code: self.next_code()?,
+            code: self.next_code(participant)?,
+            arrival: self.next_arrival(),
             participant,
             side: offer.side,
             security,
@@ -123,9 +126,25 @@ impl Engine {
         Ok(order)
     }
 
-    fn next_code(&self) -> Result<u64, Refused> {
-        ensure(self.state.codes_given < CODE_LIMIT, refusal::CODES_USED_UP)?;
-        Ok(self.state.codes_given + 1)
+    /// The participant's own, however many the others have.
+    fn next_code(&self, participant: usize) -> Result<u64, Refused> {
+        let codes_given = self.state.codes_given[participant];
+        ensure(codes_given < CODE_LIMIT, refusal::CODES_USED_UP)?;
+        Ok(codes_given + 1)
+    }
+
+    /// Each code of the day stands for one arrival.
+    fn next_arrival(&self) -> u64 {
+        self.all_codes_given() + 1
+    }
+
+    pub(super) fn all_codes_given(&self) -> u64 {
+        let known = &self.state.codes_given[..self.market.participants];
+        known.iter().sum()
+    }
+
+    pub(super) fn give_code(&mut self, order: &WaitingOrder) {
+        self.state.codes_given[order.participant] = order.code;
     }
 
     fn ask_reserve(&self, order: &WaitingOrder) -> Result<(), Refused> {

@@ -38,7 +38,7 @@ impl Engine {
         self.ask_soundness()?;
         let order = self.question_offer(offer)?;
         self.block(&order);
-        self.state.codes_given = order.code;
+        self.give_code(&order);
         let (filled, left) = match self.counter_offer(&order) {
             Some(place) => {
                 let counter = self.state.waiting.remove(place);
@@ -119,7 +119,8 @@ impl Engine {
         self.state.deals.get(index).map(|deal| (index, *deal))
     }
 
-    /// Open deals stay, due or not, and positions; nothing waits once closed.
+    /// Open deals stay, due or not, and positions; nothing waits once closed. All
+    /// codes begin anew, and arrivals with them.
     pub fn new_day(&mut self, date: u64) -> Answer {
         self.ask_soundness()?;
         ensure(self.state.phase == Phase::Closed, refusal::PHASE)?;
@@ -128,7 +129,7 @@ impl Engine {
         self.state.date = date;
         self.state.phase = Phase::Open;
         self.state.traded = Default::default();
-        self.state.codes_given = 0;
+        self.state.codes_given = Default::default();
         Ok(Done::default())
     }
 }

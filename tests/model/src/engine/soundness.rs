@@ -1,6 +1,8 @@
 //! Question 1: is the state sound? Asked over the known places only; places
 //! past the counts aren't read.
 
+use std::mem::replace;
+
 use super::calendar::LAST_DAY;
 use super::questions::term_allowed;
 use super::{
@@ -23,7 +25,7 @@ impl Engine {
     /// with, so their order matters.
     pub fn is_sound(&self) -> bool {
         self.market_sound()
-            && self.state.codes_given <= CODE_LIMIT
+            && self.codes_sound()
             && self.traded_sound()
             && self.orders_sound()
             && self.deals_sound()
@@ -42,8 +44,13 @@ impl Engine {
             && market.rate <= RATE_LIMIT
     }
 
+    fn codes_sound(&self) -> bool {
+        let known = &self.state.codes_given[..self.market.participants];
+        known.iter().all(|codes| *codes <= CODE_LIMIT)
+    }
+
     fn traded_sound(&self) -> bool {
-        let most_pieces = PIECES_PER_CODE * self.state.codes_given;
+        let most_pieces = PIECES_PER_CODE * self.all_codes_given();
         let known = &self.state.traded[..self.market.securities.len()];
         known.iter().all(|traded| {
             traded.pieces <= most_pieces
@@ -52,19 +59,24 @@ impl Engine {
         })
     }
 
+    /// By rising arrival, and so that each participant's codes rise too.
     fn orders_sound(&self) -> bool {
-        let mut last_code = 0;
+        let mut last_arrival = 0;
+        let mut last_codes = [0; PARTICIPANT_LIMIT];
         self.state.waiting.len() <= WAITING_LIMIT
             && self.state.waiting.iter().all(|order| {
-                let rising = order.code > last_code;
-                last_code = order.code;
-                rising && self.order_sound(order)
+                let rising = order.arrival > last_arrival;
+                last_arrival = order.arrival;
+                rising
+                    && self.order_sound(order)
+                    && order.code > replace(&mut last_codes[order.participant], order.code)
             })
     }
 
     fn order_sound(&self, order: &WaitingOrder) -> bool {
-        order.code <= self.state.codes_given
-            && order.participant < self.market.participants
+        order.participant < self.market.participants
+            && order.code <= self.state.codes_given[order.participant]
+            && order.arrival <= self.all_codes_given()
             && order.security < self.market.securities.len()
             && (1..=LOTS_LIMIT).contains(&order.lots)
             && self.kind_sound(order)

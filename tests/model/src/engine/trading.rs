@@ -19,7 +19,7 @@ impl Engine {
     pub(super) fn admit(&mut self, entry: &Entry, trades: &mut Vec<Trade>) -> Answer {
         let mut order = self.question_entry(entry)?;
         self.block(&order);
-        self.state.codes_given = order.code;
+        self.give_code(&order);
         let earlier_trades = trades.len();
         if self.state.phase == Phase::Open {
             self.match_order(&mut order, entry.price, trades);
@@ -40,17 +40,15 @@ impl Engine {
         })
     }
 
-    /// Members in list order, each on the state its predecessor left.
+    /// Members in list order, each on the state its predecessor left. The first
+    /// member's code is the group's.
     pub(super) fn admit_members(
         &mut self,
         participant: u64,
         members: &[Member],
         trades: &mut Vec<Trade>,
     ) -> Answer {
-        let mut sum = Done {
-            code: self.state.codes_given + 1,
-            ..Done::default()
-        };
+        let mut sum = Done::default();
         for (place, member) in (1..).zip(members) {
             let entry = Entry {
                 participant,
@@ -63,6 +61,9 @@ impl Engine {
             let done = self
                 .admit(&entry, trades)
                 .map_err(|refused| Refused { place, ..refused })?;
+            if place == 1 {
+                sum.code = done.code;
+            }
             sum.filled += done.filled;
             sum.trades += done.trades;
         }
@@ -105,7 +106,7 @@ impl Engine {
     }
 
     /// Place and price of the best fitting counter order. Of equal prices the
-    /// first is taken, which has the lowest code.
+    /// first is taken, which arrived earliest.
     fn best_counter(&self, side: Side, security: usize, price: u64) -> Option<(usize, u64)> {
         let mut best = None;
         let mut bound = cost(side, price) + 1;

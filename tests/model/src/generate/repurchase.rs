@@ -16,6 +16,9 @@ const YEARS: [u64; 16] = [
     1970, 1971, 1972, 1973, 1999, 2000, 2001, 2024, 2025, 2099, 2100, 2101, 2200, 2300, 2368, 2369,
 ];
 
+/// How often an offer that meets none that waits is the equal of one.
+const EQUAL_PERCENT: u64 = 30;
+
 /// What may still be written once the last day is over.
 const LAST_LENGTH: usize = 1_000;
 
@@ -60,13 +63,28 @@ impl Day {
         self.add(Call::EnterOffer(offer));
     }
 
-    /// Often the counter of one that waits.
+    /// Often the counter of one that waits; else at times its equal, so that only
+    /// their arrival decides which of them is met.
     pub(super) fn offer(&mut self) -> Offer {
         match self.waiting_offer() {
             Some((order, terms)) if self.random.chance(self.plan.counter_percent) => {
                 self.counter_offer(&order, terms)
             }
+            Some((order, terms)) if self.random.chance(EQUAL_PERCENT) => {
+                self.equal_offer(&order, terms)
+            }
             _ => self.fresh_offer(),
+        }
+    }
+
+    /// On the same side with all numbers equal, of any participant.
+    fn equal_offer(&mut self, order: &WaitingOrder, terms: Terms) -> Offer {
+        Offer {
+            participant: self.participant(),
+            side: order.side,
+            security: order.security as u64,
+            lots: order.lots,
+            terms,
         }
     }
 

@@ -177,11 +177,12 @@ impl Day {
         self.add(call);
     }
 
-    /// Mostly an order that waits; at times another participant's, one that
-    /// was filled or cancelled, or none at all.
+    /// Mostly an order that waits; at times by the code of another participant,
+    /// who may have one of his own with it, or any code of his from 0 to one past
+    /// his last.
     pub(super) fn cancel(&mut self) -> Call {
         let participant = self.participant();
-        let codes_given = self.engine.codes_given();
+        let codes_given = self.engine.codes_given(participant as usize);
         let unknown = Call::Cancel {
             participant,
             code: self.random.within(0, codes_given + 1),
@@ -191,7 +192,7 @@ impl Day {
             return unknown;
         }
         let order = waiting[self.random.index(waiting.len())];
-        let foreign = self.random.chance(15);
+        let foreign = self.random.chance(25);
         Call::Cancel {
             participant: if foreign {
                 participant

@@ -12,6 +12,8 @@ pub fn printed(lines: &[&str]) -> String {
     String::from_utf8(output).expect("the output is of plain letters")
 }
 
+/// What the lines print as a whole. Not every test needs it.
+#[allow(dead_code)]
 pub fn assert_prints(lines: &[&str], expected: &[&str]) {
     let printed = printed(lines);
     let printed: Vec<&str> = printed.lines().collect();

@@ -3,7 +3,6 @@ use Prim.Native.Nat.{_+_, _≤_}
 use native.Mathlib.Omega.{arith}
 use borrow.Author.Needs.{needs}
 use Rattle.printing.specs.Lines.{positionLinesOf}
-use Rattle.printing.proofs.Lines.{worded-length}
 use Rattle.script.specs.Rooms.{positionsRoom}
 use Rattle.script.proofs.Lengths.{ends, positions-length}
 use Rattle.script.proofs.ending.put_day.Statement.{statement}
@@ -14,7 +13,7 @@ put-positions-requires c κs = search needs
 
 -- what stands before the positions, and where they end
 abbrev start : tie.After-put-positions → tie.Start
-start c = c .before .before .before .before .before .before .before .before .before
+start c = c .before .before .before .before .before .before .before .before .before .before
 
 balances : (c : tie.After-put-positions) → c .put-positions .result ≤ (start c) .args .at + positionsRoom
 balances c =
@@ -44,27 +43,23 @@ put-turnovers-requires c κs =
 abbrev phased : tie.After-put-turnovers → tie.After-put-phase
 phased c = c .before .before .before .before
 
-slice-aggregate-put-worded : tie.Need-slice-aggregate-put-worded
-slice-aggregate-put-worded c = search needs
-
-slice-aggregate-put-worded-2 : tie.Need-slice-aggregate-put-worded-2
-slice-aggregate-put-worded-2 c = search needs
-
-put-worded-requires : tie.Need-put-worded-requires
-put-worded-requires c κs =
-    let turnovers = c .before .before .before .before .before in
+put-codes-requires : tie.Need-put-codes-requires
+put-codes-requires c κs =
+    let turnovers = c .before .before .before in
     let phase = phased turnovers in
-    let p = positioned phase in
-    omega (
-      arith,
-      balances p,
-      phase .put-phase .ensures .most,
-      turnovers .put-turnovers .ensures .most,
-      (start p) .pre .1,
+    let p = positioned phase in (
+      (start p) .pre .0 .few-participants,
+      omega (
+        arith,
+        balances p,
+        phase .put-phase .ensures .most,
+        turnovers .put-turnovers .ensures .most,
+        (start p) .pre .1,
+      ),
     )
 
-abbrev turned : tie.After-put-worded → tie.After-put-turnovers
-turned c = c .before .before .before .before .before .before
+abbrev turned : tie.After-put-codes → tie.After-put-turnovers
+turned c = c .before .before .before .before
 
 put-orders-requires : tie.Need-put-orders-requires
 put-orders-requires c κs =
@@ -78,7 +73,7 @@ put-orders-requires c κs =
         balances p,
         phase .put-phase .ensures .most,
         turnovers .put-turnovers .ensures .most,
-        ends (codes .put-worded .ensures) (worded-length _ _),
+        codes .put-codes .ensures .most,
         (start p) .pre .1,
       ),
     )
@@ -101,7 +96,7 @@ returns c =
             balances p,
             phase .put-phase .ensures .most,
             turnovers .put-turnovers .ensures .most,
-            ends (codes .put-worded .ensures) (worded-length _ _),
+            codes .put-codes .ensures .most,
             orders .put-orders .ensures .most,
           );
     }
@@ -113,9 +108,7 @@ put-day-spec =
     put-positions-requires
     put-phase-requires
     put-turnovers-requires
-    slice-aggregate-put-worded
-    slice-aggregate-put-worded-2
-    put-worded-requires
+    put-codes-requires
     put-orders-requires
     same-length
     returns)

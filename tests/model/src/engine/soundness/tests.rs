@@ -2,8 +2,8 @@
 //! day file or script reaches: 1 and 13.
 
 use crate::calls::{
-    refusal, refused, Call, ClosingEntry, Entry, EntryKind, Movement, Offer, Opening, Phase,
-    SecurityLine, Side, Terms, Trade, WaitingKind,
+    refusal, refused, Call, ClosingEntry, Entry, EntryKind, Member, Movement, Offer, Opening,
+    Phase, Refused, SecurityLine, Side, Terms, Trade, WaitingKind,
 };
 use crate::engine::calendar::LAST_DAY;
 use crate::engine::{
@@ -163,11 +163,12 @@ fn waiting_orders() {
     assert_each_unsound(
         trading,
         &[
-            ("too many codes", |it| it.state.codes_given = CODE_LIMIT + 1),
-            ("code above those given", |it| it.state.codes_given = 2),
-            ("code 0", |it| it.state.waiting[0].code = 0),
-            ("equal codes", |it| it.state.waiting[0].code = 3),
-            ("falling codes", |it| it.state.waiting.swap(0, 1)),
+            ("arrival 0", |it| it.state.waiting[0].arrival = 0),
+            ("equal arrivals", |it| it.state.waiting[0].arrival = 3),
+            ("falling arrivals", |it| it.state.waiting.swap(0, 1)),
+            ("arrival above all codes given", |it| {
+                it.state.waiting[1].arrival = 4
+            }),
             ("unknown participant", |it| {
                 it.state.waiting[0].participant = 2
             }),
@@ -196,6 +197,52 @@ fn waiting_orders() {
     );
 }
 
+/// The buys of 0 that wait have codes 1, 2 and 3, and the sell of 1 code 2.
+fn trading_on() -> Engine {
+    let mut engine = trading();
+    run(
+        &mut engine,
+        &[entry(0, Side::Buy, 95, 1), entry(0, Side::Buy, 90, 1)],
+    );
+    engine
+}
+
+/// The counts that stay below their limit keep all codes together at 5.
+#[test]
+fn codes_of_each_participant() {
+    assert_each_unsound(
+        trading_on,
+        &[
+            ("too many codes", |it| {
+                it.state.codes_given[0] = CODE_LIMIT + 1
+            }),
+            ("codes near the greatest number", |it| {
+                it.state.codes_given[1] = u64::MAX
+            }),
+            ("code above those of its participant", |it| {
+                it.state.codes_given[..2].copy_from_slice(&[4, 1])
+            }),
+            ("the same of the other", |it| {
+                it.state.codes_given[..2].copy_from_slice(&[2, 3])
+            }),
+            ("code 0", |it| it.state.waiting[1].code = 0),
+            ("equal codes of one", |it| it.state.waiting[2].code = 3),
+            ("falling codes of one", |it| {
+                it.state.waiting[2].code = 3;
+                it.state.waiting[3].code = 2;
+            }),
+            ("falling codes further apart", |it| {
+                it.state.codes_given[0] = 4;
+                it.state.waiting[0].code = 4;
+            }),
+        ],
+    );
+    let mut engine = trading_on();
+    engine.state.codes_given[..2].copy_from_slice(&[CODE_LIMIT; 2]);
+    engine.state.waiting[3].arrival = 2 * CODE_LIMIT;
+    assert!(engine.is_sound());
+}
+
 /// Q, T and codes aren't tied to the phase.
 #[test]
 fn orders_while_collecting() {
@@ -214,7 +261,9 @@ fn orders_while_collecting() {
             ("money blocked at another price", |it| {
                 it.state.money[0][0].blocked -= 600
             }),
-            ("codes below those waiting", |it| it.state.codes_given = 1),
+            ("codes below those waiting", |it| {
+                it.state.codes_given[0] = 0
+            }),
         ],
     );
     let mut engine = trading();
@@ -238,11 +287,12 @@ fn start_and_end_of_collecting_ask_question_1() {
     }
 }
 
-/// 13 comes after 6 and before 14, while collecting too.
+/// 13 comes after 6 and before 14, while collecting too; the other still enters.
 #[test]
 fn codes_are_used_up_while_collecting() {
     let mut engine = collecting();
-    engine.state.codes_given = CODE_LIMIT;
+    engine.state.codes_given[1] = CODE_LIMIT;
+    run(&mut engine, &[entry(0, Side::Buy, 5, 1)]);
     let unpaid = engine.call(&entry(1, Side::Buy, 1_000_000, 10_000), &mut Vec::new());
     assert_eq!(unpaid, Err(refused(refusal::CODES_USED_UP)));
     let mut trades = Vec::new();
@@ -406,7 +456,7 @@ fn the_greatest_need_of_a_sound_state() {
     let mut engine = opened_by(500_000, RATE_LIMIT);
     engine.market.securities[0].lot_size = LOT_SIZE_LIMIT;
     engine.state.phase = Phase::Closing;
-    engine.state.codes_given = 1;
+    engine.state.codes_given[1] = 1;
     engine.state.traded[0].pieces = 1;
     engine.state.traded[0].turnover = PRICE_LIMIT;
     engine.state.money[0][0].free = 505_000_000_000_000;
@@ -438,6 +488,10 @@ fn traded_amounts() {
             ("T without Q", |it| it.state.traded[1].turnover = 1),
         ],
     );
+    let mut engine = trading();
+    engine.state.traded[0].pieces = 30_000_000;
+    engine.state.traded[0].turnover = 30_000_000;
+    assert!(engine.is_sound(), "1 code of 0 and 2 of 1");
 }
 
 /// Places past the counts may hold anything.
@@ -448,6 +502,7 @@ fn unknown_places_are_not_read() {
     engine.state.money[0][1].blocked = 7;
     engine.state.pieces[0][2].blocked = 7;
     engine.state.traded[2].turnover = 7;
+    engine.state.codes_given[2] = u64::MAX;
     engine.state.account[1] = u64::MAX;
     assert!(engine.is_sound());
 }
@@ -459,8 +514,9 @@ fn one_order_too_many() {
     run(&mut engine, &calls);
     assert_unsound("129 orders", engine, |it| {
         let mut order = it.state.waiting[127];
+        order.arrival += 1;
         order.code += 1;
-        it.state.codes_given += 1;
+        it.state.codes_given[0] += 1;
         it.state.money[0][0].blocked += 50;
         it.state.waiting.push(order);
     });
@@ -478,17 +534,66 @@ fn an_unsound_state_with_a_short_list() {
     assert_eq!(unsound, Err(refused(refusal::UNSOUND)));
 }
 
+/// 13 before 14, and only for the participant whose codes are used up.
 #[test]
 fn codes_are_used_up() {
     let mut engine = trading();
-    engine.state.codes_given = CODE_LIMIT - 1;
+    engine.state.codes_given[0] = CODE_LIMIT - 1;
     let order = entry(0, Side::Buy, 100, 1);
     run(&mut engine, std::slice::from_ref(&order));
-    assert_eq!(engine.codes_given(), CODE_LIMIT);
+    assert_eq!(engine.codes_given(0), CODE_LIMIT);
     let answer = engine.call(&order, &mut Vec::new());
     assert_eq!(answer, Err(refused(refusal::CODES_USED_UP)));
-    let unpaid = engine.call(&entry(1, Side::Buy, 1_000_000, 10_000), &mut Vec::new());
-    assert_eq!(unpaid, Err(refused(refusal::CODES_USED_UP)));
+    let unpaid = |participant| entry(participant, Side::Buy, 1_000_000, 10_000);
+    let answer = engine.call(&unpaid(0), &mut Vec::new());
+    assert_eq!(answer, Err(refused(refusal::CODES_USED_UP)));
+    let answer = engine.call(&unpaid(1), &mut Vec::new());
+    assert_eq!(answer, Err(refused(refusal::FREE_FOR_ORDER)));
+    run(&mut engine, &[entry(1, Side::Sell, 105, 1)]);
+    assert_eq!(engine.codes_given(1), 3);
+}
+
+/// Members that had a code before the last one was given are undone with it.
+#[test]
+fn a_group_uses_codes_up() {
+    let mut engine = trading();
+    engine.state.codes_given[0] = CODE_LIMIT - 1;
+    let member = Member {
+        side: Side::Buy,
+        security: 0,
+        price: 105,
+        lots: 1,
+    };
+    let group = |count| Call::Group {
+        participant: 0,
+        members: vec![member; count],
+    };
+    let before = engine.clone();
+    let answer = engine.call(&group(2), &mut Vec::new());
+    let number = refusal::CODES_USED_UP;
+    assert_eq!(answer, Err(Refused { number, place: 2 }));
+    assert!(engine == before, "a refusal changes nothing");
+    engine.state.codes_given[0] = CODE_LIMIT - 2;
+    let done = engine.call(&group(2), &mut Vec::new());
+    assert_eq!(done.map(|done| done.code), Ok(CODE_LIMIT - 1));
+}
+
+/// A closing order asks 13 after 12 and before 14.
+#[test]
+fn codes_are_used_up_while_closing() {
+    let mut engine = closing();
+    engine.state.codes_given[0] = CODE_LIMIT;
+    let order = |participant, lots| {
+        Call::EnterClosing(ClosingEntry {
+            participant,
+            side: Side::Buy,
+            security: 0,
+            lots,
+        })
+    };
+    let answer = engine.call(&order(0, LOTS_LIMIT), &mut Vec::new());
+    assert_eq!(answer, Err(refused(refusal::CODES_USED_UP)));
+    run(&mut engine, &[order(1, 1)]);
 }
 
 const TERMS: Terms = Terms {
@@ -630,7 +735,12 @@ fn waiting_offers() {
             ("term 0", |it| offered(it).term = 0),
             ("term 366", |it| offered(it).term = 366),
             ("no lots", |it| it.state.waiting[0].lots = 0),
-            ("code above those given", |it| it.state.codes_given = 4),
+            ("code above those of its participant", |it| {
+                it.state.codes_given[..2].copy_from_slice(&[3, 2])
+            }),
+            ("arrival above all codes given", |it| {
+                it.state.waiting[0].arrival = 6
+            }),
             ("pieces not blocked", |it| {
                 it.state.pieces[1][0].blocked -= 30
             }),
@@ -664,15 +774,17 @@ fn what_is_asked_of_the_entry_alone() {
     assert_eq!(too_large, Err(refused(refusal::RATE_OR_FIRST_SUM)));
 }
 
-/// 26 comes before 13, 13 before 14.
+/// 26 comes before 13, 13 before 14, which the other gets.
 #[test]
 fn codes_are_used_up_by_offers() {
     let mut engine = dealing();
-    engine.state.codes_given = CODE_LIMIT - 1;
+    engine.state.codes_given[0] = CODE_LIMIT - 1;
     run(&mut engine, &[offer(0, Side::Buy, 1)]);
-    let unpaid = offer(1, Side::Buy, 10_000);
+    let unpaid = offer(0, Side::Buy, 10_000);
     let answer = engine.call(&unpaid, &mut Vec::new());
     assert_eq!(answer, Err(refused(refusal::CODES_USED_UP)));
+    let of_other = engine.call(&offer(1, Side::Buy, 10_000), &mut Vec::new());
+    assert_eq!(of_other, Err(refused(refusal::FREE_FOR_ORDER)));
     let deal = engine.state.deals[1];
     engine.state.deals.resize(DEAL_LIMIT, deal);
     let answer = engine.call(&unpaid, &mut Vec::new());
