@@ -4,6 +4,7 @@ use market::MAX_WAITING;
 use market::Order;
 use market::OrderBook;
 use market::Side;
+use market::lots_of;
 use matching::lesser;
 ghost use mathlib.Core.Path.{_≡_};
 ghost use mathlib.Core.Bool.{cond};
@@ -51,13 +52,14 @@ fn rung_of(o: Order, security: u64) -> Rung
         return rung;
     };
     rung.price = price;
+    let lots = lots_of(o);
     let side = o.side;
     match side {
         Side::Buy => {
-            rung.bought = o.lots;
+            rung.bought = lots;
         },
         Side::Sell => {
-            rung.sold = o.lots;
+            rung.sold = lots;
         },
     }
     rung

@@ -240,14 +240,14 @@ pub fn bond(nominal: u64) -> Security {
 }
 
 // Its arrival is its code, cut to 32 bits.
-pub fn sell_order(code: u64, participant: u64, security: u64, lots: u64, kind: Kind) -> Order {
+pub fn sell_order(code: u64, participant: u64, security: u64, lots: u16, kind: Kind) -> Order {
     Order {
         code,
         participant,
         side: Side::Sell,
+        lots,
         arrival: (code % 4294967296) as u32,
         security,
-        lots,
         kind,
     }
 }
@@ -299,9 +299,9 @@ fn five_lots(code: u64, participant: u64, side: Side, arrival: u32, kind: Kind) 
         code,
         participant,
         side,
+        lots: 5,
         arrival,
         security: 0,
-        lots: 5,
         kind,
     }
 }

@@ -18,7 +18,7 @@ use Rattle.market.specs.declared.Side.{Side}
 use Rattle.market.specs.declared.Ticket.{Ticket}
 use Rattle.market.specs.declared.TimeInForce.{TimeInForce}
 use Rattle.market.specs.declared.Turnover.{Turnover}
-use Rattle.market.specs.Limits.{lentAtLeast, maxSecurities, maxTrades}
+use Rattle.market.specs.Limits.{lentAtLeast, maxLots, maxSecurities, maxTrades}
 use Rattle.market.specs.Tests.{_and_, _≤?_}
 use Rattle.market.specs.Day.{Day}
 use Rattle.market.specs.View.{Sized, dayOf}
@@ -29,7 +29,7 @@ use Rattle.market.specs.Calls.{Call}
 use Rattle.market.specs.Questions.{Question, closingQuestions, entryQuestions}
 use Rattle.market.specs.Step.{result, step}
 use Rattle.market.specs.Parts.{Carries, Ready}
-use Rattle.market.proofs.Logic.{and-true}
+use Rattle.market.proofs.Logic.{and-true, within-high}
 use Rattle.market.proofs.Questions.{AllYes, all-yes, yes}
 use Rattle.conservation.proofs.Counts.{result-counts}
 use Rattle.conservation.proofs.Demand.{sound-kept}
@@ -39,8 +39,9 @@ use Rattle.lines.specs.declared.Line.the-variants as line
 use Rattle.reading.proofs.Tags.{OtherLine, callTag, otherLines}
 use Rattle.codes.specs.Numbers.{Numberable}
 use Rattle.orders.specs.Entering.{EntryNo, Known}
-use Rattle.orders.proofs.Asking.{counted}
+use Rattle.orders.proofs.Asking as orders
 use Rattle.session.specs.Asking.{Askable, ClosingNo}
+use Rattle.session.proofs.Asking as session
 use Rattle.commands.specs.Command.{Does, called, carried}
 use Rattle.commands.specs.Stand.{goesOn, room}
 
@@ -105,8 +106,12 @@ module _ (r : Rules) (x : Phase) (t : List Turnover) (count : ℕ) (codes m k : 
   entry-yes : EntryNo r x t count codes m k p q a f 0 → AllYes entryAsked
   entry-yes asks = all-yes entryAsked tt (sym (asks (bookWith t count codes) refl refl refl))
 
-  pub entry-owned : Known r codes → EntryNo r x t count codes m k p q a f 0 → Numberable (r .participants) codes p
-  entry-owned known asks = counted known (ltb-true p (r .participants) (yes 4 entryAsked (entry-yes asks)))
+  pub entry-makeable : Known r codes → EntryNo r x t count codes m k p q a f 0
+      → Numberable (r .participants) codes p × (q .lots ≤ maxLots)
+  entry-makeable known asks = (
+    orders.counted known (ltb-true p (r .participants) (yes 4 entryAsked (entry-yes asks))),
+    within-high 1 maxLots (q .lots) (yes 7 entryAsked (entry-yes asks)),
+  )
 
   pub entry-listed : Known r codes → EntryNo r x t count codes m k p q a f 0 → q .security < maxSecurities
   entry-listed known asks =
@@ -129,13 +134,13 @@ module _ (r : Rules) (x : Phase) (t : List Turnover) (count : ℕ) (codes m k : 
   unfolding closingQuestions
   closing-yes asks = all-yes closingAsked tt (sym (asks (bookWith t count codes) refl refl refl))
 
-  pub closing-owned : Askable r t codes → ClosingNo r x t count codes m k p side s n 0 → Numberable (r .participants) codes p
+  pub closing-makeable : Askable r t codes → ClosingNo r x t count codes m k p side s n 0
+      → Numberable (r .participants) codes p × (n ≤ maxLots)
   unfolding closingQuestions
-  closing-owned known asks = record {
-    few = known .rules .participants;
-    codes = known .codes;
-    participant = ltb-true p (r .participants) (yes 4 closingAsked (closing-yes asks));
-  }
+  closing-makeable known asks = (
+    session.counted known (ltb-true p (r .participants) (yes 4 closingAsked (closing-yes asks))),
+    within-high 1 maxLots n (yes 7 closingAsked (closing-yes asks)),
+  )
 
   pub closing-listed : Askable r t codes → ClosingNo r x t count codes m k p side s n 0 → s < maxSecurities
   unfolding closingQuestions

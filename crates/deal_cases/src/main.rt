@@ -90,9 +90,9 @@ fn asked_buy_offer(label: &[u8], blocked: u64) {
         code: 3,
         participant: 0,
         side: Side::Buy,
+        lots: 10,
         arrival: 3,
         security: 0,
-        lots: 10,
         kind: Kind::Offer(300, 7, 95),
     };
     s.count = 1;

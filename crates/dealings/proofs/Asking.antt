@@ -16,7 +16,7 @@ use Rattle.market.specs.declared.Security.{Security}
 use Rattle.market.specs.declared.Ticket.{Ticket}
 use Rattle.market.specs.declared.TimeInForce.the-variants.{Kept}
 use Rattle.market.specs.declared.Turnover.{Turnover}
-use Rattle.market.specs.Limits.{maxOfferRate, maxParticipants, maxSecurities, maxTerm}
+use Rattle.market.specs.Limits.{maxLots, maxOfferRate, maxParticipants, maxSecurities, maxTerm}
 use Rattle.market.specs.Day.{turnoverAt}
 use Rattle.market.specs.View.{dayOf}
 use Rattle.market.specs.Parts.{listing}
@@ -48,11 +48,12 @@ module _ (r : Rules) (x : Phase) (codes : List ℕ) (p : ℕ) (m : Ticket) (know
   pub askable : Askable (listing r (m .security)) p m
   askable = orders.askable r x codes p m Offer Kept known none
 
--- the numbers of an offer whose term and rate are good
-pub narrow : (row : Security) (price lots date rate term : ℕ) → termSound date term ≡ true
-    → loanSound row price lots rate ≡ true → Narrow rate term
+-- the numbers of an offer whose lots, term and rate are good
+pub narrow : (row : Security) (price lots date rate term : ℕ) → lots ≤ maxLots → termSound date term ≡ true
+    → loanSound row price lots rate ≡ true → Narrow lots rate term
 unfolding termSound loanSound
-narrow row price lots date rate term short loan = record {
+narrow row price lots date rate term few short loan = record {
+  lots = few;
   rate = leb-true rate maxOfferRate ((and-true loan) .0);
   term = within-high 1 maxTerm term ((and-true short) .0);
 }

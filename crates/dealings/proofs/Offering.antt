@@ -104,11 +104,11 @@ module _ {r : Rules} {x : Phase} {m k : List ℕ} {b : OrderBook} {z : Records} 
   unfolding offerQuestions
   numberable = counted (known (a .ready)) (ltb-true p (r .participants) (yes 4 asked yeses))
 
-  pub narrows : Narrow rate term
+  pub narrows : Narrow (ticket .lots) rate term
   unfolding offerQuestions
   narrows =
-      narrow (row r (ticket .security)) (ticket .price) (ticket .lots) (z .date) rate term (yes 24 asked yeses)
-      (yes 25 asked yeses)
+      narrow (row r (ticket .security)) (ticket .price) (ticket .lots) (z .date) rate term
+      (within-high 1 maxLots (ticket .lots) (yes 7 asked yeses)) (yes 24 asked yeses) (yes 25 asked yeses)
 
   security : ticket .security < r .securities
   unfolding offerQuestions
@@ -136,11 +136,10 @@ module _ {r : Rules} {x : Phase} {m k : List ℕ} {b : OrderBook} {z : Records} 
   unfolding offerQuestions
   limited t h =
       let ok = rules-right r x m k b z (a .ready) in
-      let top = within-high 1 maxLots (ticket .lots) (yes 7 asked yeses) in
       record {
         price = omega (arith, h .price, price-bounds _ _ (yes 8 asked yeses));
         first = day-right r x m k b z (a .ready);
-        lots = omega (arith, h .lots, top);
+        lots = omega (arith, h .lots, narrows .lots);
         rate = narrows .rate;
         term = narrows .term;
         buyer = omega (arith, h .buyer, ok .participants);

@@ -12,7 +12,7 @@ use Rattle.market.specs.declared.Records.{Records}
 use Rattle.market.specs.declared.Rules.{Rules}
 use Rattle.market.specs.declared.Ticket.{Ticket}
 use Rattle.market.specs.declared.Turnover.{Turnover}
-use Rattle.market.specs.Limits.{lentAtLeast, maxDeals, maxOfferRate, maxOwnCodes, maxTerm, maxWaiting}
+use Rattle.market.specs.Limits.{lentAtLeast, maxDeals, maxLots, maxOfferRate, maxOwnCodes, maxTerm, maxWaiting}
 use Rattle.market.specs.Tests.{_<?_}
 use Rattle.market.specs.Sound.{priceSound}
 use Rattle.market.specs.Questions.{Question, ask, firstNo}
@@ -40,7 +40,8 @@ abbrev pub offerWith : ℕ → List ℕ → ℕ → Ticket → (rate term : ℕ)
 offerWith n codes p m rate term = numberedWith n codes (offerClaim p m rate term)
 
 -- its numbers are those of an order that waits
-pub record Narrow (yearly days : ℕ) : Type 0 where
+pub record Narrow (n yearly days : ℕ) : Type 0 where
+  pub lots : n ≤ maxLots
   pub rate : yearly ≤ maxOfferRate
   pub term : days ≤ maxTerm
 

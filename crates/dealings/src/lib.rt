@@ -33,6 +33,7 @@ use market::Rules;
 use market::Ticket;
 use market::Turnover;
 use market::registered;
+use market::unnumbered;
 use offers::enter;
 use orders::early_no;
 use phases::admits;
@@ -81,20 +82,12 @@ fn declined(book: OrderBook, records: Records, phase: Phase, number: u64) -> Dea
 
 // The offer before it is numbered, which suffices for question 14: no need reads code or arrival.
 fn offer_claim(participant: u64, ticket: Ticket, rate: u64, term: u64) -> Order
-    requires { ⌜ Narrow rate term ⌝ }
+    requires { ⌜ Narrow (ticket .lots) rate term ⌝ }
     ensures { λ r. ⌜ r ≡ offerClaim participant ticket rate term ⌝ }
 {
     let side = ticket.side;
     let kind = Kind::Offer(rate as u16, term as u16, ticket.price);
-    Order {
-        code: 0,
-        participant,
-        side,
-        arrival: 0,
-        security: ticket.security,
-        lots: ticket.lots,
-        kind,
-    }
+    unnumbered(participant, side, ticket.security, ticket.lots, kind)
 }
 
 // The offer as it enters, under the next numbers.
@@ -106,7 +99,7 @@ fn offer_of(
     rate: u64,
     term: u64,
 ) -> Order
-    requires { ⌜ Numberable participants codes participant × Narrow rate term ⌝ }
+    requires { ⌜ Numberable participants codes participant × Narrow (ticket .lots) rate term ⌝ }
     ensures { λ r. ⌜ r ≡ offerWith participants codes participant ticket rate term ⌝ }
 {
     numbered(

@@ -38,7 +38,7 @@ use Rattle.matching.specs.Filling.{openDay}
 use Rattle.codes.specs.Numbers.{Numberable}
 use Rattle.orders.specs.Entering.{Accepts, Enterable, EntersAs, entryWith, memberNo}
 use Rattle.orders.proofs.Asking.{counted}
-use Rattle.orders.proofs.Answered.{accepts, few-lots, in-table, member-opens, owned, rules-known, same-day}
+use Rattle.orders.proofs.Answered.{accepts, entry-none, few-lots, in-lots, in-table, member-opens, numberable, rules-known, same-day}
 use Rattle.linked.specs.Group.{Groupable}
 use Rattle.linked.proofs.Calling.{group-carries}
 use Rattle.linked.proofs.Lent.{lentFrom, put-back, returned, returned-written, written-length}
@@ -178,8 +178,13 @@ module _ {s : From} {m k l : List ℕ} {b : OrderBook} {filled made i : ℕ} (t 
         pub known : q .security < maxSecurities
         known = in-table (s .rules) (s .phase) m k b (t .stays) (s .owner) q Member FillOrKill asked
 
-        pub numbers : Numberable (s .rules .participants) (b .codes) (s .owner)
-        numbers = owned (s .rules) (s .phase) m k b (t .stays) (s .owner) q Member FillOrKill asked
+        -- its order can be numbered, and its lots stored
+        pub makeable : Numberable (s .rules .participants) (b .codes) (s .owner) × (q .lots ≤ maxLots)
+        makeable =
+            let first = entry-none (s .rules) (s .phase) m k b (t .stays) (s .owner) q Member FillOrKill asked in (
+              numberable (s .rules) (s .phase) m k b (t .stays) (s .owner) q Member FillOrKill first,
+              in-lots (s .rules) (s .phase) m k b (t .stays) (s .owner) q Member FillOrKill first,
+            )
 
         abbrev e : Order
         e = entryWith (s .rules .participants) (b .codes) (s .owner) q
@@ -250,7 +255,7 @@ module _ {s : From} {m k l : List ℕ} {b : OrderBook} {filled made i : ℕ} (t 
               number = omega (arith, t .number, made-is, length-append (t .trades) (result .trades));
               space = omega (arith, t .space, made-is, few);
               lots = omega (arith, t .lots, lots-is, member-few d (s .owner) q asked);
-              owner = λ x. numbers .participant;
+              owner = λ x. makeable .0 .participant;
               list = list-after;
               runs =
                   runs-here

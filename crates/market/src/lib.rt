@@ -2,7 +2,9 @@
 
 ghost use mathlib.Core.Path.{_≡_};
 ghost use Rattle.market.specs.declared.Answer.the-variants.{Done, Refused};
-ghost use Rattle.market.specs.Limits.{limitsInOrder};
+ghost use Prim.Native.Nat.{_≤_};
+ghost use Rattle.market.specs.Day.{withLots};
+ghost use Rattle.market.specs.Limits.{limitsInOrder, maxLots};
 ghost use Rattle.market.specs.View.{dayOf, view};
 ghost use Rattle.market.specs.Parts.{bookOf, rulesOf};
 ghost use Rattle.market.specs.Ledger.{ledgerOf, whole};
@@ -168,15 +170,15 @@ pub struct Turnover {
     pub value: u64,
 }
 
-// A waiting order: its participant's own code, and the arrival number, which is never shown. Arrival lies in what a side leaves
-// free.
+// A waiting order: its participant's own code, and the arrival number, which is never shown. Lots (T-08) and arrival lie in
+// what a side leaves free; only `lots_of` and `with_lots` know how wide lots are.
 pub struct Order {
     pub code: u64,
     pub participant: u64,
     pub side: Side,
+    pub lots: u16,
     pub arrival: u32,
     pub security: u64,
-    pub lots: u64,
     pub kind: Kind,
 }
 
@@ -316,6 +318,40 @@ pub struct Dealt {
 pub struct Outcome {
     pub answer: Answer,
     pub state: State,
+}
+
+// An order's lots, as wide as the sums that start from them.
+pub fn lots_of(o: Order) -> u64
+    ensures { λ r. ⌜ r ≡ o .lots ⌝ }
+{
+    o.lots as u64
+}
+
+// The order with other lots, which question 7 or what they are taken from has bounded.
+pub fn with_lots(o: Order, lots: u64) -> Order
+    requires { ⌜ lots ≤ maxLots ⌝ }
+    ensures { λ r. ⌜ r ≡ withLots o lots ⌝ }
+{
+    let mut next = o;
+    next.lots = lots as u16;
+    next
+}
+
+// An order before it is numbered.
+pub fn unnumbered(participant: u64, side: Side, security: u64, lots: u64, kind: Kind) -> Order
+    requires { ⌜ lots ≤ maxLots ⌝ }
+    ensures { λ r. ⌜ r ≡ record { code = 0; participant = participant; side = side; lots = lots; arrival = 0; security = security; kind = kind } ⌝ }
+{
+    let empty = Order {
+        code: 0,
+        participant,
+        side,
+        lots: 0,
+        arrival: 0,
+        security,
+        kind,
+    };
+    with_lots(empty, lots)
 }
 
 // The parts of a state that its calls read, besides positions and phase.

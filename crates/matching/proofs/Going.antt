@@ -10,14 +10,16 @@ use Rattle.market.specs.declared.Order.{Order}
 use Rattle.market.specs.declared.OrderBook.{OrderBook}
 use Rattle.market.specs.declared.Listing.{Listing}
 use Rattle.market.specs.declared.Turnover.{Turnover}
-use Rattle.market.specs.Limits.{maxParticipants, maxSecurities, maxWaiting, numbersPerTrade}
+use Rattle.market.specs.Limits.{maxLots, maxParticipants, maxSecurities, maxWaiting, numbersPerTrade}
 use Rattle.market.specs.Tests.{_≤?_}
 use Rattle.market.specs.declared.Rules.{Rules}
-use Rattle.market.specs.Day.{Day, orderAt, turnoverAt, withLots}
+use Rattle.market.specs.Day.{Day, noOrder, orderAt, turnoverAt, withLots}
 use Rattle.market.specs.Waiting.{takeOff}
 use Rattle.market.specs.TradeList.{Trade, tradeOf, written}
 use Rattle.market.specs.Matching.{Best, Filled, best, buyOf, fill, fits, found, next, prefer, priceOf, sellOf}
 use Rattle.market.specs.Matching.{traded, withTrade}
+use Rattle.market.proofs.Known.{OrderOk}
+use Rattle.market.proofs.Lists.{all-at}
 use Rattle.market.proofs.View.{first-length}
 use Rattle.market.proofs.Waiting.{gone, stays}
 use Rattle.market.proofs.Matching.{Chosen, best-chosen}
@@ -71,17 +73,19 @@ found-price e w i p h =
     let c = subst (λ (b : Best). Chosen e w b) h (best-chosen e w) in
     h ∙ ap (λ (q : ℕ). found i q) (c .2)
 
-pub going-starts : (s : Start) → Flies (s .r) (s .l) (s .b) (s .e) (s .m) (s .k)
-    → Going s (s .m) (s .k) (s .v) (s .b) (s .e .lots) 0
-going-starts s f = record {
-  flies = f;
-  long = refl;
-  less = omega arith;
-  day = refl;
-  rest = refl;
-  trades = omega arith;
-  list = refl;
-}
+pub going-starts : (s : Start) → Flies (s .r) (s .l) (s .b) (s .e) (s .m) (s .k) → {wanted : ℕ} → wanted ≡ s .e .lots
+    → Going s (s .m) (s .k) (s .v) (s .b) wanted 0
+going-starts s f all =
+    rw all
+    (record {
+      flies = f;
+      long = refl;
+      less = omega arith;
+      day = refl;
+      rest = refl;
+      trades = omega arith;
+      list = refl;
+    })
 
 module _ {s : Start} {m k v : List ℕ} {b : OrderBook} {left made : ℕ} (g : Going s m k v b left made) where
   abbrev entry : Order
@@ -98,6 +102,9 @@ module _ {s : Start} {m k v : List ℕ} {b : OrderBook} {left made : ℕ} (g : G
 
   pub going-participant : s .e .participant < maxParticipants
   going-participant = omega (arith, g .flies .flight .participant, g .flies .flight .backed .rulesOk .participants)
+
+  pub going-top : left ≤ maxLots
+  going-top = g .flies .flight .top
 
   -- where matching ends, what the contract says holds
   pub going-ends : fill day entry ≡ record { day = day; entry = entry; trades = [] } → (b′ : OrderBook)
@@ -134,6 +141,9 @@ module _ {s : Start} {m k v : List ℕ} {b : OrderBook} {left made : ℕ} (g : G
 
     pub going-index : i < b .count
     going-index = omega (arith, chosen .0, first-length (b .count) (b .orders))
+
+    pub going-lots : o .lots ≤ maxLots
+    going-lots = (all-at (OrderOk (s .r)) noOrder (waitingIn b) i (g .flies .flight .orders) (chosen .0)) .top
 
     step : fill day entry
         ≡ withTrade (tradeOf (s .r) (buyOf entry o) (sellOf entry o) p n)

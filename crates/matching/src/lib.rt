@@ -12,13 +12,14 @@ use market::Order;
 use market::OrderBook;
 use market::Side;
 use market::Turnover;
+use market::lots_of;
+use market::with_lots;
 use positions::receive;
 use positions::transfer;
 ghost use mathlib.Core.Path.{_≡_};
 ghost use Prim.Native.Nat.{_+_, _*_, _-_, _≤_, _<_, min};
 ghost use lib.ListN.{length};
 ghost use Rattle.market.specs.Limits.{numbersPerTrade};
-ghost use Rattle.market.specs.Day.{withLots};
 ghost use Rattle.market.specs.View.{firstOrders};
 ghost use Rattle.market.specs.Needs.{keptPrice};
 ghost use Rattle.market.specs.Positions.{counting};
@@ -170,14 +171,6 @@ fn closer(e: Order, bound: u64, height: u64, o: Order) -> bool
     }
 }
 
-pub fn with_lots(o: Order, lots: u64) -> Order
-    ensures { λ r. ⌜ r ≡ withLots o lots ⌝ }
-{
-    let mut next = o;
-    next.lots = lots;
-    next
-}
-
 // Each trade adds to Q and T.
 fn counted(old: Turnover, pieces: u64, value: u64) -> Turnover
     requires { ⌜ Countable old pieces value ⌝ }
@@ -192,7 +185,7 @@ fn counted(old: Turnover, pieces: u64, value: u64) -> Turnover
 fn lots_fitting(e: Order, o: Order) -> u64
     ensures { λ r. ⌜ r ≡ fittingLots e o ⌝ }
 {
-    if fits(e, o) { o.lots } else { 0 }
+    if fits(e, o) { lots_of(o) } else { 0 }
 }
 
 // The lots of the waiting orders that fit the entry, added up.
@@ -216,7 +209,7 @@ fn fall_of(listing: Listing, turnover: Turnover, order: Order, lots: u64) -> u64
     requires { ⌜ Reckoned listing turnover order lots ⌝ }
     ensures { λ r. ⌜ r ≡ fallWith listing turnover order lots ⌝ }
 {
-    let rest = with_lots(order, order.lots - lots);
+    let rest = with_lots(order, lots_of(order) - lots);
     need_of(listing, turnover, order) - need_of(listing, turnover, rest)
 }
 
@@ -362,7 +355,8 @@ pub fn fill(
 {
     let mut book = b;
     let security = e.security as usize;
-    let mut left = e.lots;
+    let wanted = lots_of(e);
+    let mut left = wanted;
     let mut made: usize = 0;
     // A counter order that fits has a rank below this.
     let side = e.side;
@@ -393,7 +387,8 @@ pub fn fill(
             i += 1;
         };
         let o = book.orders[at];
-        let lots = lesser(left, o.lots);
+        let waits = lots_of(o);
+        let lots = lesser(left, waits);
         let entry = with_lots(e, left);
         let turnover = book.turnover[security];
         book.turnover[security] = trade_with(
@@ -408,7 +403,7 @@ pub fn fill(
             lots,
         );
         // A filled order gives its place up. In a function of its own this would copy the book.
-        if o.lots <= lots {
+        if waits <= lots {
             let last = count - 1;
             let mut j = at;
             while j < last {
@@ -418,13 +413,13 @@ pub fn fill(
             }
             book.count = last;
         } else {
-            book.orders[at] = with_lots(o, o.lots - lots);
+            book.orders[at] = with_lots(o, waits - lots);
         }
         left -= lots;
         made += 1;
     }
     book.codes[e.participant as usize] = e.code;
-    book.filled = e.lots - left;
+    book.filled = wanted - left;
     book.left = left;
     book.trades = made as u64;
     book.code = e.code;

@@ -173,18 +173,18 @@ module _ {r : Rules} {x : Phase} {l : Listing} {b : OrderBook} {i : ℕ} {w : Li
   turnover-is : turnoverAt t (entry .security) ≡ turnoverAt t (e .security)
   turnover-is = ap (λ (o : Order). turnoverAt t (o .security)) entry-is
 
-  lots-is : entry .lots ≡ n
-  lots-is = ap (λ (o : Order). o .lots) entry-is
+  module _ (v : List ℕ) (lent : numbersPerTrade ≤ length v) {y z : Order} {q lots : ℕ} (one : y ≡ ifBuy (entry .side) entry counter)
+      (other : z ≡ ifBuy (entry .side) counter entry) (price : q ≡ priceOr 0 (entry .kind)) (read : lots ≡ entry .lots) where
+    lots-is : lots ≡ n
+    lots-is = read ∙ ap (λ (o : Order). o .lots) entry-is
 
-  module _ (v : List ℕ) (lent : numbersPerTrade ≤ length v) {y z : Order} {q : ℕ} (one : y ≡ ifBuy (entry .side) entry counter)
-      (other : z ≡ ifBuy (entry .side) counter entry) (price : q ≡ priceOr 0 (entry .kind)) where
-    pub met-ready : Executable l (turnoverAt t (entry .security)) y z q (entry .lots) 0 m k v
+    pub met-ready : Executable l (turnoverAt t (entry .security)) y z q lots 0 m k v
     met-ready =
         pair-executable pair turnover-is (one ∙ buy-is) (other ∙ sell-is) (price ∙ price-is) lots-is v 0 (omega arith)
 
     -- the trade is made
     module _ {m′ k′ v′ : List ℕ} {made : Turnover}
-        (done : Executes l (turnoverAt t (entry .security)) y z q (entry .lots) 0 m k v m′ k′ v′ made) where
+        (done : Executes l (turnoverAt t (entry .security)) y z q lots 0 m k v m′ k′ v′ made) where
       listed : v′ ≡ tradeWritten 0 (tradeOf r buy sell p n) v
       listed = list-paired pair turnover-is (one ∙ buy-is) (other ∙ sell-is) (price ∙ price-is) lots-is done
 
@@ -211,15 +211,15 @@ module _ {r : Rules} {x : Phase} {l : Listing} {b : OrderBook} {i : ℕ} {w : Li
             ∙ sym (later-first (waitingIn b) (e .side) last i n (f .inside))
 
         pub met-done : (b′ : OrderBook) → b′ .orders ≡ u → b′ .count ≡ b .count - 1 - 1 → b′ .codes ≡ b .codes
-            → b′ .turnover ≡ b .turnover → b′ .filled ≡ entry .lots → b′ .left ≡ 0 → b′ .trades ≡ 1 → b′ .code ≡ b .code
+            → b′ .turnover ≡ b .turnover → b′ .filled ≡ lots → b′ .left ≡ 0 → b′ .trades ≡ 1 → b′ .code ≡ b .code
             → MetAs (pairUp d e (length w) i) e r x b v m′ k′ v′ b′
         met-done b′ orders count codes turnover filled left trades code =
             let off : waitingIn b′ ≡ takeBoth (waitingIn b) bid ask n =
             ap (λ (a : ℕ). firstOrders a (b′ .orders)) count ∙ ap (firstOrders (b .count - 1 - 1)) orders ∙ gone in
-            let lots : b′ .filled ≡ e .lots = filled ∙ lots-is in
+            let whole : b′ .filled ≡ e .lots = filled ∙ lots-is in
             record {
               day =
                   day-paired pair turnover-is (one ∙ buy-is) (other ∙ sell-is) (price ∙ price-is) lots-is done b′ off codes turnover;
               list = listed ∙ one-written (tradeOf r buy sell p n) v;
-              answer = rw (code, lots, left, trades);
+              answer = rw (code, whole, left, trades);
             }

@@ -5,6 +5,7 @@ use market::Kind;
 use market::Listing;
 use market::Order;
 use market::OrderBook;
+use market::lots_of;
 use matching::execute;
 use matching::if_buy;
 use matching::opposite;
@@ -62,7 +63,7 @@ fn is_counter(entry: Order, o: Order) -> bool
     if entry.security != o.security {
         return false;
     }
-    if entry.lots != o.lots {
+    if lots_of(entry) != lots_of(o) {
         return false;
     }
     let side = entry.side;
@@ -125,6 +126,7 @@ fn first_part(
     let buy = if_buy(side, entry, counter);
     let sell = if_buy(side, counter, entry);
     let price = offer_price(kind);
+    let lots = lots_of(entry);
     execute(
         money,
         pieces,
@@ -135,7 +137,7 @@ fn first_part(
         buy,
         sell,
         price,
-        entry.lots,
+        lots,
     );
     let rest = last - 1;
     let mut i = at;
@@ -145,7 +147,7 @@ fn first_part(
         i += 1;
     }
     book.count = rest;
-    book.filled = entry.lots;
+    book.filled = lots;
     book.left = 0;
     book.trades = 1;
     book

@@ -72,9 +72,9 @@ fn opened(rules: Rules, date: u64) -> State
         code: 0,
         participant: 0,
         side: Side::Buy,
+        lots: 0,
         arrival: 0,
         security: 0,
-        lots: 0,
         kind: Kind::Kept(0),
     };
     State {

@@ -125,6 +125,9 @@ module _ {r : Rules} {l : Listing} {b : OrderBook} {e : Order} {f : TimeInForce}
           subst (λ (x : Day). InFlight x rest) (sym (g .day))
           (subst (λ (o : Order). InFlight (filled .day) o) (sym (g .entry)) (fill-flight (openDay r m1 k1 b1) e (flies .flight)))
 
+      pub left-top : b2 .left ≤ maxLots
+      left-top = landed .top
+
       -- what of it does not wait can be freed
       pub freeable : (n : ℕ) → n ≡ leftWaiting f rest
           → Freeable l (turnoverAt (b2 .turnover) (e .security)) (withLots rest (b2 .left - n)) m2 k2

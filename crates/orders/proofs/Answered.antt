@@ -1,5 +1,5 @@
 -- What the questions of an order tell, on the parts of a sound day.
-use Prim.Native.Nat.{ℕ, _<_}
+use Prim.Native.Nat.{ℕ, _≤_, _<_}
 use native.Mathlib.Omega.{arith}
 use mathlib.Core.Path.{_≡_, refl, ap, sym, _∙_, subst}
 use mathlib.Core.List.{List, [], _∷_}
@@ -15,13 +15,14 @@ use Rattle.market.specs.declared.Phase.the-variants.{Open}
 use Rattle.market.specs.declared.Rules.{Rules}
 use Rattle.market.specs.declared.TimeInForce.{TimeInForce}
 use Rattle.market.specs.declared.TimeInForce.the-variants.{FillOrKill}
-use Rattle.market.specs.Limits.{maxSecurities}
+use Rattle.market.specs.Limits.{maxLots, maxSecurities}
 use Rattle.market.specs.Day.{Day}
 use Rattle.market.specs.Parts.{listing}
 use Rattle.market.specs.View.{dayOf}
 use Rattle.market.specs.Sound.{isCollecting}
 use Rattle.market.specs.Phases.{admits, orderAccess}
 use Rattle.market.specs.Questions.{Question, ask, entryQuestions, firstNo, orderQuestions}
+use Rattle.market.proofs.Logic.{within-high}
 use Rattle.market.proofs.Questions.{AllYes, all-yes, hides, passes, yes}
 use Rattle.market.proofs.Phases.{enters-kept, enters-open, member-open}
 use Rattle.invariant.specs.Standing.{Standing}
@@ -56,12 +57,14 @@ module _ (r : Rules) (x : Phase) (m k : List ℕ) (b : OrderBook) (standing : St
     pub no-first : (n : ℕ) → 0 < n → n ≡ firstNo asked → orderNo d p t a f ≡ n
     no-first n h e = whole-last r x m k b p t a f ∙ hides asked last (omega arith) ∙ sym e
 
-    -- there is none: the order can be numbered
-    pub numberable : firstNo asked ≡ 0 → Numberable (r .participants) (b .codes) p
-    numberable none = counted rules-known (ltb-true p (r .participants) (yes 4 asked (all-yes asked tt none)))
-
-    -- and question 15 is asked of the claim
+    -- there is none: the order can be numbered, its lots can be stored, and question 15 is asked of the claim
     module _ (none : firstNo asked ≡ 0) where
+      pub numberable : Numberable (r .participants) (b .codes) p
+      numberable = counted rules-known (ltb-true p (r .participants) (yes 4 asked (all-yes asked tt none)))
+
+      pub in-lots : t .lots ≤ maxLots
+      in-lots = within-high 1 maxLots (t .lots) (yes 7 asked (all-yes asked tt none))
+
       to-last : orderNo d p t a f ≡ firstNo last
       to-last = whole-last r x m k b p t a f ∙ passes asked last (all-yes asked tt none)
 
@@ -77,9 +80,11 @@ module _ (r : Rules) (x : Phase) (m k : List ℕ) (b : OrderBook) (standing : St
       unfolding orderQuestions
       yeses = all-yes (orderQuestions d p t a f) tt none
 
-      pub owned : Numberable (r .participants) (b .codes) p
-      unfolding orderQuestions
-      owned = counted rules-known (ltb-true p (r .participants) (yes 4 (orderQuestions d p t a f) yeses))
+      -- question 15 is the last
+      pub entry-none : firstNo asked ≡ 0
+      entry-none =
+          let no : 0 < firstNo asked → ⊥ = λ h. omega (arith, no-first (firstNo asked) h refl, none) in
+          omega (arith, no)
 
       pub in-table : t .security < maxSecurities
       unfolding orderQuestions

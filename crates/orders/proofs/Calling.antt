@@ -14,7 +14,7 @@ use Rattle.market.specs.declared.Phase.{Phase}
 use Rattle.market.specs.declared.Phase.the-variants.{Open}
 use Rattle.market.specs.declared.Rules.{Rules}
 use Rattle.market.specs.declared.TimeInForce.{TimeInForce}
-use Rattle.market.specs.Limits.{lentAtLeast, maxSecurities}
+use Rattle.market.specs.Limits.{lentAtLeast, maxLots, maxSecurities}
 use Rattle.market.specs.Day.{Day}
 use Rattle.market.specs.View.{dayOf}
 use Rattle.market.specs.Sound.{isCollecting}
@@ -77,9 +77,6 @@ module _ (r : Rules) (x : Phase) (m k : List ℕ) (b : OrderBook) (ready : Ready
       refuse-first n h e =
           carries-refuse r x m k b v call (ready .sound) n h (from-four ∙ answered.no-first r x m k b standing p t (orderAccess f) f n h e)
 
-      pub numberable : firstNo asked ≡ 0 → Numberable (r .participants) (b .codes) p
-      numberable none = answered.numberable r x m k b standing p t (orderAccess f) f none
-
       -- while collecting, question 15 is not asked
       pub collects-whole : firstNo asked ≡ 0 → isCollecting x ≡ true → fillableIn f (waitingIn b) (claimWith p t) ≡ true
       collects-whole none collects =
@@ -87,6 +84,12 @@ module _ (r : Rules) (x : Phase) (m k : List ℕ) (b : OrderBook) (ready : Ready
           subst (λ (g : TimeInForce). fillableIn g (waitingIn b) (claimWith p t) ≡ true) (sym kept) refl
 
       module _ (none : firstNo asked ≡ 0) where
+        pub numberable : Numberable (r .participants) (b .codes) p
+        numberable = answered.numberable r x m k b standing p t (orderAccess f) f none
+
+        pub in-lots : t .lots ≤ maxLots
+        in-lots = answered.in-lots r x m k b standing p t (orderAccess f) f none
+
         pub refuse-whole : fillableIn f (waitingIn b) (claimWith p t) ≡ false → declines 15
         refuse-whole h =
             carries-refuse r x m k b v call (ready .sound) 15 (omega arith)

@@ -20,10 +20,12 @@ use market::Ticket;
 use market::TimeInForce;
 use market::Turnover;
 use market::declined;
+use market::lots_of;
 use market::registered;
+use market::unnumbered;
+use market::with_lots;
 use matching::fill;
 use matching::fitting_lots;
-use matching::with_lots;
 use phases::admits;
 use phases::is_collecting;
 use waiting::append;
@@ -34,7 +36,7 @@ use waiting::leave;
 ghost use mathlib.Core.Path.{_≡_};
 ghost use mathlib.Core.List.{[]};
 ghost use Prim.Native.Nat.{_≤_};
-ghost use Rattle.market.specs.Limits.{maxWaiting};
+ghost use Rattle.market.specs.Limits.{maxLots, maxWaiting};
 ghost use Rattle.market.specs.Waiting.{indexOf};
 ghost use Rattle.market.specs.Calls.{cancel as cancelCall, order as orderCall};
 ghost use Rattle.market.specs.Phases.{orderAccess};
@@ -54,24 +56,17 @@ pub enum Found {
 
 // The order before it is numbered, which suffices for questions 14 and 15: neither need nor fit reads code or arrival.
 pub fn claim_of(participant: u64, member: Ticket) -> Order
+    requires { ⌜ member .lots ≤ maxLots ⌝ }
     ensures { λ r. ⌜ r ≡ claimWith participant member ⌝ }
 {
     let side = member.side;
     let kind = Kind::Kept(member.price);
-    Order {
-        code: 0,
-        participant,
-        side,
-        arrival: 0,
-        security: member.security,
-        lots: member.lots,
-        kind,
-    }
+    unnumbered(participant, side, member.security, member.lots, kind)
 }
 
 // The order as it enters, under the next numbers.
 pub fn entry_of(participants: u64, codes: [u64; 16], participant: u64, member: Ticket) -> Order
-    requires { ⌜ Numberable participants codes participant ⌝ }
+    requires { ⌜ Numberable participants codes participant × (member .lots ≤ maxLots) ⌝ }
     ensures { λ r. ⌜ r ≡ entryWith participants codes participant member ⌝ }
 {
     numbered(participants, codes, claim_of(participant, member))
@@ -96,7 +91,7 @@ pub fn is_fillable(book: OrderBook, force: TimeInForce, entry: Order) -> bool
     match force {
         TimeInForce::Kept => true,
         TimeInForce::ImmediateOrCancel => true,
-        TimeInForce::FillOrKill => entry.lots <= fitting_lots(book, entry),
+        TimeInForce::FillOrKill => lots_of(entry) <= fitting_lots(book, entry),
     }
 }
 
@@ -223,7 +218,7 @@ fn left_waiting(force: TimeInForce, rest: Order) -> u64
     ensures { λ r. ⌜ r ≡ leftWaiting force rest ⌝ }
 {
     match force {
-        TimeInForce::Kept => rest.lots,
+        TimeInForce::Kept => lots_of(rest),
         TimeInForce::ImmediateOrCancel => 0,
         TimeInForce::FillOrKill => 0,
     }
@@ -256,7 +251,7 @@ pub fn enter(
         pieces,
         listing,
         after,
-        with_lots(rest, rest.lots - waits),
+        with_lots(rest, book.left - waits),
     );
     if 0 < waits {
         let count = book.count;

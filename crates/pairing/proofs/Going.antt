@@ -19,7 +19,8 @@ use Rattle.market.specs.TradeList.{lotsOf, tradeOf}
 use Rattle.market.specs.Matching.{Best, found, none}
 use Rattle.market.specs.Pairing.{Paired, Terms, counterparty, firstBuy, firstSell, pairedOff, pairs}
 use Rattle.market.specs.Pairing.{takeBoth}
-use Rattle.market.proofs.Lists.{all-at}
+use Rattle.market.proofs.Known.{OrderOk}
+use Rattle.market.proofs.Lists.{All, all-at, all-map}
 use Rattle.market.proofs.Matching.{Chosen, best-chosen}
 use Rattle.market.proofs.Pairs.{Both, Meeting, Stands, meets, pairs-no-buy, pairs-no-sell, pairs-one, stand-apart}
 use Rattle.market.proofs.View.{first-length}
@@ -31,6 +32,7 @@ use Rattle.matching.specs.Written.{tradeWritten}
 use Rattle.matching.proofs.Pairing.{PairOk, buyOk, day-paired, list-paired, pair-executable}
 use Rattle.matching.proofs.Writing.{written-length, written-next, writtenFrom}
 use Rattle.pairing.specs.Pairing.{Counts, Meets, PairedAs}
+use Rattle.pairing.proofs.Taking.{Within}
 
 -- the parts at the start: rules, phase, listing, security, terms, money, pieces, order book, lent list
 pub record Start : Type 0 where
@@ -93,6 +95,9 @@ module _ {g : Start} {m k v : List ℕ} {b : OrderBook} {made : ℕ} (h : Going 
 
   pub going-security : g .s < maxSecurities
   going-security = omega (arith, h .meets .known, h .meets .standing .backed .rulesOk .securities)
+
+  pub going-within : All Within (waitingIn b)
+  going-within = all-map (OrderOk (g .r)) Within (waitingIn b) (λ o k. k .top) (st .orders)
 
   pub going-counts : (b′ : OrderBook) → b′ .filled ≡ b .filled → b′ .trades ≡ made → b′ .count ≡ b .count → Counts b′ v
   going-counts b′ ef et ec = record {

@@ -1,19 +1,28 @@
 -- Lots come off two orders of a book, off the later one first: what holds between the two.
 use Prim.Native.Nat.{ℕ, _+_, _-_, _≤_, _<_, max, min}
 use native.Mathlib.Omega.{arith}
-use mathlib.Core.Path.{_≡_, refl, ap, sym, _∙_}
+use mathlib.Core.Path.{_≡_, refl, ap, subst, sym, _∙_}
 use mathlib.Core.List.{List}
 use mathlib.Core.Bool.{Bool, true, false, cond}
 use lib.ListN.{length, set}
 use borrow.Author.Tests.{le-ltb, lt-ltb, ltb-true, ltb-false}
 use Rattle.market.specs.declared.Order.{Order}
 use Rattle.market.specs.declared.OrderBook.{OrderBook}
+use Rattle.market.specs.Limits.{maxLots}
 use Rattle.market.specs.Tests.{_<?_}
-use Rattle.market.specs.Day.{orderAt, withLots}
+use Rattle.market.specs.Day.{noOrder, orderAt, withLots}
 use Rattle.market.specs.Waiting.{takeOff}
 use Rattle.market.specs.Pairing.{takeBoth}
+use Rattle.market.proofs.Lists.{All, all-at}
+use Rattle.market.proofs.View.{first-length}
+use Rattle.market.proofs.Waiting.{all-takeOff}
 use Rattle.matching.specs.Orders.{waitingIn}
+use Rattle.matching.proofs.First.{first-at}
 use Rattle.matching.proofs.Removal.{Moved, Off, off-filled, off-less}
+
+-- the lots of an order that waits
+abbrev pub Within : Order → Type 0
+Within o = o .lots ≤ maxLots
 
 -- two books that differ in their orders, their count and their trades alone
 pub record Same (b b′ : OrderBook) : Type 0 where
@@ -34,17 +43,20 @@ pub record Taking (b₀ b : OrderBook) (i j n earlier place : ℕ) : Type 0 wher
   pub room : b .count ≤ length (b .orders)
   pub long : length (b .orders) ≡ length (b₀ .orders)
   pub same : Same b₀ b
+  pub within : All Within (waitingIn b)
   pub rest : remaining (waitingIn b) earlier place n ≡ takeBoth (waitingIn b₀) i j n
 
 pub taking-starts : (b : OrderBook) (i j n earlier later : ℕ) → b .count ≤ length (b .orders) → i < b .count → j < b .count
-    → (i ≡ j → ⊥) → earlier ≡ min i j → later ≡ max i j → Taking b b i j n earlier later
+    → (i ≡ j → ⊥) → earlier ≡ min i j → later ≡ max i j → All Within (waitingIn b)
+    → Taking b b i j n earlier later
 unfolding takeBoth
-taking-starts b i j n earlier later room hi hj apart first second = record {
+taking-starts b i j n earlier later room hi hj apart first second within = record {
   low = omega (arith, first, second);
   inside = omega (arith, second);
   room = room;
   long = refl;
   same = record { codes = refl; turnover = refl; filled = refl; left = refl };
+  within = within;
   rest = go (i <? j) refl;
 }
   where
@@ -73,25 +85,32 @@ pub record Taken (b : OrderBook) (place n : ℕ) (b′ : OrderBook) : Type 0 whe
   pub one : b .count ≤ b′ .count + 1
 
 module _ {b₀ b : OrderBook} {i j n earlier place : ℕ} (h : Taking b₀ b i j n earlier place) where
-  pub taken-filled : (orderAt (b .orders) place) .lots ≤ n → {w : List Order} {k : ℕ}
-      → Moved (b .orders) w place (b .count - 1) k → b .count - 1 ≤ k → (b′ : OrderBook) → b′ .orders ≡ w
-      → b′ .count ≡ b .count - 1 → Same b b′ → Taken b place n b′
-  taken-filled filled m last b′ orders count same = record {
-    off = off-filled b place n (h .inside) (h .room) filled m last b′ orders count (same .codes) (same .turnover);
-    same = same;
-    fewer = omega arith;
-    one = omega arith;
-  }
+  -- the order there has so many lots
+  module _ {waits : ℕ} (read : waits ≡ (orderAt (b .orders) place) .lots) where
+    pub taken-top : waits ≤ maxLots
+    taken-top =
+        let inside : place < length (waitingIn b) = omega (arith, h .inside, first-length (b .count) (b .orders)) in
+        let top = all-at Within noOrder (waitingIn b) place (h .within) inside in
+        rw (read, sym (first-at (b .count) (b .orders) place (h .inside))) top
 
-  pub taken-less : n < (orderAt (b .orders) place) .lots → (o : Order)
-      → o ≡ withLots (orderAt (b .orders) place) ((orderAt (b .orders) place) .lots - n) → (b′ : OrderBook)
-      → b′ .orders ≡ set (b .orders) place o → b′ .count ≡ b .count → Same b b′ → Taken b place n b′
-  taken-less more o less b′ orders count same = record {
-    off = off-less b place n (h .inside) (h .room) more o less b′ orders count (same .codes) (same .turnover);
-    same = same;
-    fewer = omega arith;
-    one = omega arith;
-  }
+    pub taken-filled : waits ≤ n → {w : List Order} {k : ℕ}
+        → Moved (b .orders) w place (b .count - 1) k → b .count - 1 ≤ k → (b′ : OrderBook) → b′ .orders ≡ w
+        → b′ .count ≡ b .count - 1 → Same b b′ → Taken b place n b′
+    taken-filled filled m last b′ orders count same = record {
+      off = off-filled b place n (h .inside) (h .room) read filled m last b′ orders count (same .codes) (same .turnover);
+      same = same;
+      fewer = omega arith;
+      one = omega arith;
+    }
+
+    pub taken-less : n < waits → (o : Order) → o ≡ withLots (orderAt (b .orders) place) (waits - n) → (b′ : OrderBook)
+        → b′ .orders ≡ set (b .orders) place o → b′ .count ≡ b .count → Same b b′ → Taken b place n b′
+    taken-less more o less b′ orders count same = record {
+      off = off-less b place n (h .inside) (h .room) read more o less b′ orders count (same .codes) (same .turnover);
+      same = same;
+      fewer = omega arith;
+      one = omega arith;
+    }
 
   module _ {b′ : OrderBook} (t : Taken b place n b′) where
     pub taken-long : length (b′ .orders) ≡ length (b₀ .orders)
@@ -118,6 +137,8 @@ module _ {b₀ b : OrderBook} {i j n earlier place : ℕ} (h : Taking b₀ b i j
           room = omega (arith, t .fewer, h .room, t .off .long);
           long = taken-long;
           same = taken-same;
+          within = subst (All Within) (sym (t .off .waiting))
+              (all-takeOff Within (waitingIn b) place n (λ o top more. omega arith) (h .within));
           rest = last ∙ ap (λ (w : List Order). takeOff w earlier n) (t .off .waiting) ∙ sym one ∙ h .rest;
         }
 

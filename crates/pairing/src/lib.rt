@@ -6,11 +6,12 @@ use market::Order;
 use market::OrderBook;
 use market::Rules;
 use market::Side;
+use market::lots_of;
+use market::with_lots;
 use matching::Found;
 use matching::execute;
 use matching::lesser;
 use matching::preferred;
-use matching::with_lots;
 use waiting::free_need;
 ghost use mathlib.Core.Path.{_≡_};
 ghost use Prim.Native.Nat.{max, min};
@@ -48,9 +49,9 @@ fn counterparty(side: Side, security: u64, limit: Kind) -> Order
         code: 0,
         participant: 0,
         side,
+        lots: 0,
         arrival: 0,
         security,
-        lots: 0,
         kind: limit,
     }
 }
@@ -128,7 +129,7 @@ pub fn pair_all(
         };
         let buy = book.orders[at];
         let sell = book.orders[to];
-        let lots = lesser(buy.lots, sell.lots);
+        let lots = lesser(lots_of(buy), lots_of(sell));
         execute(
             money,
             pieces,
@@ -147,7 +148,8 @@ pub fn pair_all(
         let mut place = later_of(at, to);
         'off: loop {
             let o = book.orders[place];
-            if o.lots <= lots {
+            let waits = lots_of(o);
+            if waits <= lots {
                 let last = book.count - 1;
                 let mut j = place;
                 'shift: while j < last {
@@ -157,7 +159,7 @@ pub fn pair_all(
                 }
                 book.count = last;
             } else {
-                book.orders[place] = with_lots(o, o.lots - lots);
+                book.orders[place] = with_lots(o, waits - lots);
             }
             if place == earlier {
                 break 'off;

@@ -12,6 +12,7 @@ use market::Phase;
 use market::Side;
 use market::State;
 use market::Turnover;
+use market::lots_of;
 use market::rules_of;
 use printing::put_bytes;
 use printing::put_fields;
@@ -95,7 +96,7 @@ fn put_order(out: &mut [u8], at: usize, order: Order) -> usize
     let side = order.side;
     let kind = order.kind;
     let whose = [order.participant, order.code];
-    let what = [order.security, order.lots];
+    let what = [order.security, lots_of(order)];
     let a = put_bytes(out, at, b"WAITS");
     let b = put_fields(out, a, &whose);
     let c = put_side(out, b, side);

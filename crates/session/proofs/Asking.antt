@@ -1,5 +1,5 @@
 -- The questions of a closing order in the parts in which code asks them, and the call, on the parts of a sound day.
-use Prim.Native.Nat.{ℕ, _<_}
+use Prim.Native.Nat.{ℕ, _≤_, _<_}
 use native.Mathlib.Omega.{arith}
 use mathlib.Core.Path.{_≡_, refl, ap, sym, subst, _∙_}
 use mathlib.Core.List.{List, [], _++_}
@@ -35,6 +35,11 @@ use Rattle.waiting.specs.Claims.{Reckonable}
 use Rattle.waiting.proofs.Days.{covered-is}
 use Rattle.session.specs.Asking.{Askable, ClosingNo}
 use Rattle.session.specs.Asking.{closingClaim, closingWith, earlyClosing, laterClosing}
+
+-- what a closing order is numbered with
+pub counted : {r : Rules} {t : List Turnover} {codes : List ℕ} {p : ℕ} → Askable r t codes → p < r .participants
+    → Numberable (r .participants) codes p
+counted k h = record { few = k .rules .participants; codes = k .codes; participant = h }
 
 -- the questions of a closing order, of a day of these parts
 asked-in-parts : (r : Rules) (x : Phase) (m k : List ℕ) (b : OrderBook) (p : ℕ) (side : Side) (s n : ℕ)
@@ -74,6 +79,9 @@ module _ (r : Rules) (x : Phase) (codes : List ℕ) (p : ℕ) (side : Side) (s n
     pub in-counts : p < maxParticipants
     in-counts = omega (arith, ltb-true p (r .participants) (yeses .0), ask .rules .participants)
 
+    pub in-lots : n ≤ maxLots
+    in-lots = within-high 1 maxLots n (yeses .1 .1 .1 .0)
+
     pub reckonable : {o : Order} → o ≡ closingClaim p side s n → Reckonable (listing r s) (turnoverAt t s) o
     reckonable e =
         let ok = ask .rules in
@@ -84,7 +92,7 @@ module _ (r : Rules) (x : Phase) (codes : List ℕ) (p : ℕ) (side : Side) (s n
           currency = omega (arith, ok .currency s listed, ok .currencies);
           listing = listing-ok r s ok listed;
           limit = ask .prices s listed;
-          top = within-high 1 maxLots n (yeses .1 .1 .1 .0);
+          top = in-lots;
         })
 
     pub no-later : {o : Order} → o ≡ closingClaim p side s n → (count : ℕ) (m k : List ℕ) (i : ℕ)
@@ -136,13 +144,13 @@ module _ (r : Rules) (x : Phase) (m k : List ℕ) (b : OrderBook) (ready : Ready
       in-table =
           omega (arith, ltb-true s (r .securities) (yes 5 asked yeses-all), standing .backed .rulesOk .securities)
 
-      pub numberable : Numberable (r .participants) (b .codes) p
+      -- it can be numbered, and its lots stored
+      pub makeable : Numberable (r .participants) (b .codes) p × (n ≤ maxLots)
       unfolding closingQuestions
-      numberable = record {
-        few = standing .backed .rulesOk .participants;
-        codes = standing .limit;
-        participant = ltb-true p (r .participants) (yes 4 asked yeses-all);
-      }
+      makeable = (
+        counted askable (ltb-true p (r .participants) (yes 4 asked yeses-all)),
+        within-high 1 maxLots n (yes 7 asked yeses-all),
+      )
 
       module _ {o : Order} (entry : o ≡ closingWith (r .participants) (b .codes) p side s n) where
         admits : Admits r x (listing r s) b o m k

@@ -23,15 +23,16 @@ use market::Side;
 use market::Turnover;
 use market::declined;
 use market::registered;
+use market::unnumbered;
 use pairing::free_all;
 use pairing::pair_all;
 use phases::admits;
 use waiting::append;
 use waiting::covers;
-ghost use Prim.Native.Nat.{_<_};
+ghost use Prim.Native.Nat.{_<_, _≤_};
 ghost use mathlib.Core.Path.{_≡_};
 ghost use mathlib.Core.List.{[]};
-ghost use Rattle.market.specs.Limits.{maxSecurities};
+ghost use Rattle.market.specs.Limits.{maxLots, maxSecurities};
 ghost use Rattle.market.specs.Calls.{closingOrder};
 ghost use Rattle.market.specs.Phases.{admits as admitsCall};
 ghost use Rattle.market.specs.Questions.{firstNo};
@@ -234,17 +235,10 @@ fn later_closing_no<'a>(
 
 // A closing order before it is numbered, which suffices for question 14: no need reads code or arrival. It has no price.
 fn closing_claim(participant: u64, side: Side, security: u64, lots: u64) -> Order
+    requires { ⌜ lots ≤ maxLots ⌝ }
     ensures { λ r. ⌜ r ≡ closingClaim participant side security lots ⌝ }
 {
-    Order {
-        code: 0,
-        participant,
-        side,
-        arrival: 0,
-        security,
-        lots,
-        kind: Kind::Closing,
-    }
+    unnumbered(participant, side, security, lots, Kind::Closing)
 }
 
 // A closing order as it enters, under the next numbers.
@@ -256,7 +250,7 @@ pub fn closing_order(
     security: u64,
     lots: u64,
 ) -> Order
-    requires { ⌜ Numberable participants codes participant ⌝ }
+    requires { ⌜ Numberable participants codes participant × (lots ≤ maxLots) ⌝ }
     ensures { λ r. ⌜ r ≡ closingWith participants codes participant side security lots ⌝ }
 {
     numbered(

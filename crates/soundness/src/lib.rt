@@ -33,6 +33,7 @@ use market::Security;
 use market::Side;
 use market::State;
 use market::Turnover;
+use market::lots_of;
 use phases::is_closing;
 use phases::is_open;
 use phases::kept_in;
@@ -231,7 +232,7 @@ fn order_sound(
     if participants <= order.participant {
         return false;
     }
-    if !within(1, MAX_LOTS, order.lots) {
+    if !within(1, MAX_LOTS, lots_of(order)) {
         return false;
     }
     let kind = order.kind;

@@ -1,5 +1,6 @@
 // Cases of the trading day that no script can say, run on the engine: states made by hand, what lies past the counts, 62,500 codes
 // of a member, numbers too long for a line, and what a call leaves as it was.
+mod lots;
 mod own_codes;
 
 use case_states::after;
@@ -41,6 +42,7 @@ use engine::increase_pieces;
 use engine::opening;
 use engine::start_closing;
 use engine::start_collecting;
+use lots::stored_lots;
 use market::Kind;
 use market::Order;
 use market::Phase;
@@ -147,7 +149,7 @@ fn unsound_turnover() {
 }
 
 // Its arrival, 3, is sound whatever the rest.
-fn asked_order(label: &[u8], code: u64, participant: u64, security: u64, lots: u64) {
+fn asked_order(label: &[u8], code: u64, participant: u64, security: u64, lots: u16) {
     let o = sell_order(code, participant, security, lots, Kind::Kept(95));
     asked(label, waiting(arrived(o, 3)));
 }
@@ -186,9 +188,9 @@ fn asked_percent_buy(label: &[u8], blocked: u64) {
         code: 3,
         participant: 0,
         side: Side::Buy,
+        lots: 10,
         arrival: 3,
         security: 0,
-        lots: 10,
         kind: Kind::Kept(9950),
     };
     s.count = 1;
@@ -728,4 +730,5 @@ fn main() {
     unsound_session();
     collecting_codes();
     unsound_collecting();
+    stored_lots();
 }

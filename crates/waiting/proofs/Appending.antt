@@ -1,10 +1,11 @@
 -- An order that only waits, step by step on the parts of the day.
 use Prim.Native.Nat.{ℕ, _+_, _<_}
 use native.Mathlib.Omega.{arith}
-use mathlib.Core.Path.{_≡_, refl, ap, _∙_}
+use mathlib.Core.Path.{_≡_, ap, _∙_}
 use mathlib.Core.List.{List, [], _∷_, _++_}
 use lib.ListN.{length, set}
 use borrow.Author.Tests.{ltb-true}
+use Rattle.market.specs.declared.Answer.the-variants.{Done}
 use Rattle.market.specs.declared.Order.{Order}
 use Rattle.market.specs.declared.OrderBook.{OrderBook}
 use Rattle.market.specs.declared.Phase.{Phase}
@@ -47,9 +48,9 @@ module _ {r : Rules} {x : Phase} {l : Listing} {b : OrderBook} {o : Order} {m k 
       blocks d l o (a .listing) [] (a .standing .backed) (p .order .participant) (p .order .security)
       (limit-fits d (a .standing) o (p .order) (p .kind)) (p .order .top) (p .covers)
 
-  pub append-done : {m′ k′ : List ℕ} → b .count < length (b .orders)
+  pub append-done : {m′ k′ : List ℕ} {lots : ℕ} → b .count < length (b .orders)
       → m′ ≡ moneyWith block l (turnoverAt (b .turnover) (o .security)) o m
-      → k′ ≡ piecesWith block l (turnoverAt (b .turnover) (o .security)) o k
+      → k′ ≡ piecesWith block l (turnoverAt (b .turnover) (o .security)) o k → lots ≡ o .lots
       → AppendedAs (placed d o) r x m′ k′
       (record {
         orders = set (b .orders) (b .count) o;
@@ -57,13 +58,13 @@ module _ {r : Rules} {x : Phase} {l : Listing} {b : OrderBook} {o : Order} {m k 
         codes = set (b .codes) (o .participant) (o .code);
         turnover = b .turnover;
         filled = 0;
-        left = o .lots;
+        left = lots;
         trades = 0;
         code = o .code;
       })
   unfolding placed admitted blockFor
-  append-done {m′} {k′} inside em ek = record {
-    answer = refl;
+  append-done {m′} {k′} inside em ek read = record {
+    answer = ap (λ (n : ℕ). Done (o .code) 0 n 0) read;
     day =
         ap (λ (w : List Order). withWaiting (withCodes (dayOf r x m′ k′ b) (set (b .codes) (o .participant) (o .code))) w)
         (first-append (b .count) (b .orders) o inside)

@@ -7,6 +7,7 @@ use market::Order;
 use market::OrderBook;
 use market::Side;
 use market::Turnover;
+use market::lots_of;
 use positions::block;
 use positions::free_of;
 use positions::release;
@@ -122,7 +123,7 @@ pub fn append(
     book.count = count + 1;
     book.codes[o.participant as usize] = o.code;
     book.filled = 0;
-    book.left = o.lots;
+    book.left = lots_of(o);
     book.trades = 0;
     book.code = o.code;
     book

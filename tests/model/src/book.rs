@@ -1,6 +1,7 @@
 //! The book of demand 3. It is fed the opening's arguments and each call's
 //! arguments, answer and trades, and nothing from the state.
 
+mod lots;
 mod repurchase;
 
 use crate::calls::{

@@ -1,9 +1,9 @@
 //! Runs the model on a day file or a script with the book beside it.
 
 use crate::book::{expect, Book, Checked};
-use crate::calls::{Answer, Call, Opening, Side, Trade};
+use crate::calls::{Answer, Call, EntryKind, Opening, Side, Trade};
 use crate::dayfile::{run_text, Observer};
-use crate::engine::Engine;
+use crate::engine::{Engine, LOTS_LIMIT};
 use crate::printed::check_printed;
 use crate::tally::Tally;
 
@@ -25,6 +25,8 @@ impl Observer for Checker<'_> {
         self.tally.count_call(call, answer);
         self.count_second_part(call, answer);
         self.count_by_arrival(call, trades);
+        self.count_fitting(call, answer);
+        self.count_last_lots(trades);
         if let Some(book) = &mut self.book {
             let fed = book.feed(call, answer, trades);
             self.note(fed);
@@ -54,15 +56,33 @@ impl Checker<'_> {
             return;
         };
         for trade in trades {
-            let sides = [
-                (Side::Buy, trade.buyer, trade.buy_code),
-                (Side::Sell, trade.seller, trade.sell_code),
-            ];
-            for (side, participant, code) in sides {
+            for (side, participant, code) in sides_of(trade) {
                 if book.precedes_lower_code(side, participant, code) {
                     self.tally.count_by_arrival(call, book.phase());
                 }
             }
+        }
+    }
+
+    /// The same, of an order of kind A; members of a group don't count.
+    fn count_fitting(&mut self, call: &Call, answer: &Answer) {
+        if let (Call::Enter(entry), Ok(_), Some(book)) = (call, answer, &self.book) {
+            if entry.kind == EntryKind::FillOrKill {
+                let fitting = book.fitting_lots(entry);
+                self.tally.lots.count_fitting(entry.lots, fitting);
+            }
+        }
+    }
+
+    /// The same; only where one trade took all lots but one.
+    fn count_last_lots(&mut self, trades: &[Trade]) {
+        let Some(book) = &self.book else {
+            return;
+        };
+        let all_but_one = trades.iter().filter(|trade| trade.lots == LOTS_LIMIT - 1);
+        for (side, participant, code) in all_but_one.flat_map(sides_of) {
+            let is_of_the_most = book.lots_left(side, participant, code) == Some(LOTS_LIMIT);
+            self.tally.lots.last_lots += u64::from(is_of_the_most);
         }
     }
 
@@ -71,6 +91,14 @@ impl Checker<'_> {
             self.fault = Some(format!("line {}: {fault}", self.line));
         }
     }
+}
+
+/// With participant and code.
+fn sides_of(trade: &Trade) -> [(Side, u64, u64); 2] {
+    [
+        (Side::Buy, trade.buyer, trade.buy_code),
+        (Side::Sell, trade.seller, trade.sell_code),
+    ]
 }
 
 /// The model's output, once the book agrees with every state and with the

@@ -7,7 +7,7 @@ use crate::write::line;
 
 type Lines = Vec<Vec<u8>>;
 
-const NUMBERS: [&str; 16] = [
+const NUMBERS: [&str; 18] = [
     "0",
     "00",
     "01",
@@ -20,13 +20,15 @@ const NUMBERS: [&str; 16] = [
     "-1",
     "1e3",
     "",
+    "65537",
+    "75536",
     "9999999999999999",
     "10000000000000000",
     "00000000000000001",
     "18446744073709551616",
 ];
 
-const LINES: [&str; 30] = [
+const LINES: [&str; 34] = [
     "",
     ",",
     "C",
@@ -50,9 +52,13 @@ const LINES: [&str; 30] = [
     "G,99,3",
     "B,0,0,100,1",
     "B,0,0,100,1,X",
+    "B,0,0,100,65537,K",
+    "L,0,0,100,65537,I",
+    "G,0,2\nM,B,0,100,1\nM,L,0,100,65537",
     "L,0,0,100,1,KK",
     "P,0,B,0,1",
     "P,0,b,0,1",
+    "P,0,B,0,65537",
     "X,0",
     "Y,0,0,1",
     "R,0,0,1,",
@@ -60,7 +66,7 @@ const LINES: [&str; 30] = [
 ];
 
 /// Words of scripts, in good form and in bad, of this level and of later ones.
-const SCRIPT_LINES: [&str; 78] = [
+const SCRIPT_LINES: [&str; 79] = [
     "SHOW",
     "SHOW",
     "SHOW",
@@ -101,6 +107,7 @@ const SCRIPT_LINES: [&str; 78] = [
     "OFFER,1,L,0,100,1,500,7",
     "OFFER,0,L,0,100,1,500,7",
     "OFFER,0,B,0,100,1,5001,7",
+    "OFFER,0,B,0,100,65537,500,7",
     "OFFER,0,B,0,100,1,500,366",
     "OFFER,0,B,0,100,1,500,0",
     "OFFER,0,B,0,100,1,500",

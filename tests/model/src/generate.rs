@@ -8,6 +8,7 @@ mod repurchase;
 mod script;
 mod single;
 mod spoiled;
+mod walls;
 
 use day::{Day, LONGEST_CALL};
 use repurchase::date;
@@ -38,6 +39,12 @@ struct Plan {
     kept_percent: u64,
     crossing_percent: u64,
     buy_percent: u64,
+    /// Of spoiled calls: those whose lots sixteen bits would cut.
+    cut_percent: u64,
+    /// Of orders: those with large lots.
+    large_percent: u64,
+    /// Of calls while open: those that many large orders come before.
+    wall_percent: u64,
     closing_at: usize,
     ending_at: usize,
     lend_percent: u64,
@@ -75,6 +82,9 @@ const SENSIBLE: Plan = Plan {
     kept_percent: 60,
     crossing_percent: 70,
     buy_percent: 50,
+    cut_percent: 25,
+    large_percent: 0,
+    wall_percent: 0,
     closing_at: NEVER,
     ending_at: NEVER,
     lend_percent: 0,
@@ -126,9 +136,9 @@ pub fn day_file(seed: u64) -> Vec<u8> {
 
 /// The script of a seed: mostly a day with words of scripts among its calls,
 /// often one with an auction before trading opens, or several days with
-/// repurchase deals; at times with such words put in anywhere, with another
-/// rate, date or nominal, hardly more than a heading, or one that never was
-/// good.
+/// repurchase deals; at times with large lots, with such words put in anywhere,
+/// with another rate, date or nominal, hardly more than a heading, or one that
+/// never was good.
 pub fn script(seed: u64) -> Vec<u8> {
     let mut random = Random::new(!seed);
     match random.below(30) {
@@ -157,6 +167,7 @@ pub fn script(seed: u64) -> Vec<u8> {
         }
         17..=21 => repurchase_days(random),
         22 => full_deals_days(random),
+        23 => large_lots_day(random, SCRIPTED),
         _ => text(seed, SCRIPTED),
     }
 }
@@ -165,7 +176,8 @@ pub fn script(seed: u64) -> Vec<u8> {
 fn text(seed: u64, usual: Plan) -> Vec<u8> {
     let mut random = Random::new(seed);
     match seed % 16 {
-        0..=4 => small_day(random, usual),
+        0..=3 => small_day(random, usual),
+        4 => large_lots_day(random, usual),
         5..=6 => medium_day(random, usual),
         7 => long_day(random, usual),
         8 => full_book_day(random, usual),
@@ -190,6 +202,7 @@ pub fn good_long_day(seed: u64) -> Vec<u8> {
         length: TEXT_LIMIT,
         squeezes: 0,
         spoiled: 0,
+        cut_percent: 0,
         kept_percent: 75,
         closing_at: TEXT_LIMIT * 9 / 10,
         ending_at: TEXT_LIMIT * 39 / 40,
@@ -274,7 +287,7 @@ fn auction_day(mut random: Random) -> Vec<u8> {
         ..SCRIPTED
     };
     let plan = with_closing(&mut random, plan);
-    let opening = auction_opening(&mut random, plan);
+    let opening = opening_of_few(&mut random, plan, &[1, 2, 4, 8, SECURITY_LIMIT]);
     Day::new(random, plan, opening).write()
 }
 
@@ -343,6 +356,22 @@ fn closing_day(mut random: Random, usual: Plan) -> Vec<u8> {
     Day::new(random, plan, opening).write()
 }
 
+/// So many large orders in few securities that what fits one of them, and what a
+/// group, an auction and a session answer, is more than sixteen bits hold.
+fn large_lots_day(mut random: Random, usual: Plan) -> Vec<u8> {
+    let length = random.within(3_000, 9_000) as usize;
+    let plan = Plan {
+        length,
+        large_percent: random.pick(&[20, 90]),
+        wall_percent: 6,
+        closing_at: length / 2,
+        ending_at: length * 7 / 10,
+        ..usual
+    };
+    let opening = opening_of_few(&mut random, plan, &[1, 1, 1, 2]);
+    Day::new(random, plan, opening).write()
+}
+
 /// Mostly calls with a number at the edge.
 fn spoiled_day(mut random: Random, usual: Plan) -> Vec<u8> {
     let plan = Plan {
@@ -388,9 +417,10 @@ fn opening(random: &mut Random, plan: Plan, most_participants: u64) -> Opening {
     }
 }
 
-fn auction_opening(random: &mut Random, plan: Plan) -> Opening {
+/// Few participants, and one of these numbers of securities.
+fn opening_of_few(random: &mut Random, plan: Plan, counts: &[usize]) -> Opening {
     let currencies = random.within(1, 2);
-    let count = random.pick(&[1, 2, 4, 8, SECURITY_LIMIT]);
+    let count = random.pick(counts);
     Opening {
         participants: random.within(1, 3),
         currencies,

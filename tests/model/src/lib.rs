@@ -15,5 +15,6 @@ pub mod output;
 pub mod printed;
 pub mod random;
 pub mod reader;
+pub mod sixteen_bits;
 pub mod tally;
 pub mod write;

@@ -1,7 +1,11 @@
 //! Counts what the texts brought about, to show what a test has reached.
 
+mod lots;
+
 use std::collections::BTreeMap;
 use std::fmt;
+
+use lots::LotsTally;
 
 use crate::calls::{refusal, Answer, Call, Phase};
 
@@ -48,6 +52,7 @@ pub struct Tally {
     /// Trades whose sum isn't a whole number of times their price, which only
     /// a nominal brings about.
     pub odd_sums: u64,
+    pub lots: LotsTally,
 }
 
 fn phase_word(phase: Phase) -> String {
@@ -89,6 +94,7 @@ impl Tally {
 
     /// Counts what the output alone doesn't tell.
     pub fn count_call(&mut self, call: &Call, answer: &Answer) {
+        self.lots.count_call(call, answer);
         match (call, answer) {
             (Call::Group { .. }, _) => self.count_group(answer),
             (Call::Cancel { .. }, _) => self.count_cancel(answer),
@@ -229,7 +235,7 @@ impl fmt::Display for Tally {
                 "\n  trades with a sum that only a nominal gives {count}"
             )?;
         }
-        Ok(())
+        write!(out, "{}", self.lots)
     }
 }
 

@@ -37,6 +37,7 @@ fn every_refusal_and_phase_within_reach_is_reached() -> Result<(), String> {
     assert!(odd_sums > trades / 10, "{odd_sums} sums by a nominal");
     assert_codes_are_reached(&tally);
     assert_deals_are_reached(&tally);
+    assert_lots_are_reached(&tally);
     Ok(())
 }
 
@@ -85,4 +86,22 @@ fn assert_deals_are_reached(tally: &Tally) {
     assert!(own > 0, "deals with oneself");
     assert!(deals > own, "deals with another");
     assert!(tally.deals_with_interest > deals / 4, "deals with interest");
+}
+
+/// Where sixteen bits are too few for lots: those refused with 7, of each entry,
+/// answered ones, those that fit an A order, and what is left of the most.
+fn assert_lots_are_reached(tally: &Tally) {
+    let lots = &tally.lots;
+    for entered in ["kept", "immediate", "whole", "member", "closing", "offer"] {
+        let count = lots.refused(entered);
+        assert!(count > SCRIPTS / 40, "{count} lots refused, {entered}");
+    }
+    for by in ["group", "auction", "session"] {
+        let count = lots.answered(by);
+        assert!(count > SCRIPTS / 100, "{count} long answers, {by}");
+    }
+    let (fitting, last_lots) = (lots.fitting, lots.last_lots);
+    assert_eq!(lots.answered("other"), 0, "one order's lots fit");
+    assert!(fitting > SCRIPTS / 100, "{fitting} filled whole");
+    assert!(last_lots > SCRIPTS / 10, "{last_lots} with one lot left");
 }

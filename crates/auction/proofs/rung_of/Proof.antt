@@ -21,6 +21,9 @@ returns-2 c =
     let other = not-kept (c .before .before .before .args .o .kind) (c .match .keys2) in
     rw (eq-eqb _ _ (c .before .if1 .left), other .0, other .1)
 
+lots-of-requires : tie.Need-lots-of-requires
+lots-of-requires c κs = search needs
+
 enum-told : tie.Need-enum-told
 enum-told c = search needs
 
@@ -30,14 +33,16 @@ enum-told-2 c = search needs
 returns-3 : tie.Need-returns-3
 unfolding priceOn lotsFor _and_
 returns-3 c =
-    let k = c .before .before .before in
-    rw (eq-eqb _ _ (k .before .before .if1 .left), k .kind .given .1, c .enum-told .given .1)
+    let read = c .before .before in
+    let k = read .before .before in
+    rw (read .lots-of .ensures, eq-eqb _ _ (k .before .before .if1 .left), k .kind .given .1, c .enum-told .given .1)
 
 returns-4 : tie.Need-returns-4
 unfolding priceOn lotsFor _and_
 returns-4 c =
-    let k = c .before .before .before in
-    rw (eq-eqb _ _ (k .before .before .if1 .left), k .kind .given .1, c .enum-told2 .given .1)
+    let read = c .before .before in
+    let k = read .before .before in
+    rw (read .lots-of .ensures, eq-eqb _ _ (k .before .before .if1 .left), k .kind .given .1, c .enum-told2 .given .1)
 
 pub rung-of-spec : {M : Type 1} → statement M
 rung-of-spec =
@@ -46,6 +51,7 @@ rung-of-spec =
     returns
     enum-known-kind
     returns-2
+    lots-of-requires
     enum-told
     enum-told-2
     returns-3

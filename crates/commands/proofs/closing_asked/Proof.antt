@@ -9,7 +9,7 @@ use Rattle.commands.specs.Command.{carried}
 use Rattle.calls.proofs.Lists.{any-list, closing-listless}
 use Rattle.session.specs.Asking.{ClosingNo, closingWith}
 use Rattle.session.proofs.Asking.{appendable, appended, refuse}
-use Rattle.commands.proofs.Carrying.{closing-listed, closing-none, closing-owned, does-call}
+use Rattle.commands.proofs.Carrying.{closing-listed, closing-none, closing-makeable, does-call}
 use Rattle.commands.proofs.closing_asked.Statement.{statement}
 use Rattle.commands.proofs.closing_asked.Tie as tie
 
@@ -51,7 +51,7 @@ closing-order-requires : tie.Need-closing-order-requires
 closing-order-requires c κs =
     let e = c .before .before in
     let a = e .before .before .args in
-    closing-owned (a .rules) (a .phase) (a .turnovers) (a .count) (a .codes) (a .money .now) (a .pieces .now) (a .participant)
+    closing-makeable (a .rules) (a .phase) (a .turnovers) (a .count) (a .codes) (a .money .now) (a .pieces .now) (a .participant)
     (a .side) (a .security) (a .lots) (e .before .before .pre) (none e)
 
 returns-2 : tie.Need-returns-2

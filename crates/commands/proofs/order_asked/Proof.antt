@@ -12,7 +12,7 @@ use Rattle.market.specs.Limits.{lentAtLeast, maxSecurities}
 use Rattle.commands.specs.Command.{carried}
 use Rattle.orders.specs.Entering.{EntryNo, entryWith}
 use Rattle.orders.proofs.Calling.{appendable, collects-whole, order-waits, refuse-first}
-use Rattle.commands.proofs.Carrying.{does-call, entry-listed, entry-none, entry-owned}
+use Rattle.commands.proofs.Carrying.{does-call, entry-listed, entry-none, entry-makeable}
 use Rattle.commands.proofs.order_asked.Statement.{statement}
 use Rattle.commands.proofs.order_asked.Tie as tie
 
@@ -69,7 +69,7 @@ entry-of-requires : tie.Need-entry-of-requires
 entry-of-requires c κs =
     let e = c .before .before in
     let a = (start e) .args in
-    entry-owned (a .rules) (a .phase) (a .turnovers) (a .count) (a .codes) (a .money .now) (a .pieces .now) (a .participant)
+    entry-makeable (a .rules) (a .phase) (a .turnovers) (a .count) (a .codes) (a .money .now) (a .pieces .now) (a .participant)
     (a .ticket) (orderAccess (a .force)) (a .force) ((start e) .pre) (none e)
 
 is-collecting-requires : tie.Need-is-collecting-requires

@@ -93,7 +93,7 @@ offer-claim-requires : tie.Need-offer-claim-requires
 offer-claim-requires c κs =
     let three = behind c in
     let two = three .before .before in
-    narrow _ _ _ _ _ _ (short two) (loaned three)
+    narrow _ _ _ _ _ _ ((start three) .pre .top) (short two) (loaned three)
 
 covers-requires : tie.Need-covers-requires
 covers-requires c κs =

@@ -8,8 +8,7 @@ use Rattle.market.specs.Questions.{entryQuestions, firstNo}
 use Rattle.amounts.proofs.Answers.{fails, holds}
 use Rattle.matching.specs.Orders.{waitingIn}
 use Rattle.orders.specs.Entering.{claimWith, fillableIn}
-use Rattle.orders.proofs.Answered.{few-lots, no-first, no-none, no-whole, rules-known}
-use borrow.Author.Needs.{needs}
+use Rattle.orders.proofs.Answered.{few-lots, in-lots, no-first, no-none, no-whole, rules-known}
 use Rattle.linked.proofs.first_no.Statement.{statement}
 use Rattle.linked.proofs.first_no.Tie as tie
 
@@ -44,7 +43,10 @@ none : (c : tie.Else1) →
 none c = omega (arith, c .if1 .left, first (c .before))
 
 claim-of-requires : tie.Need-claim-of-requires
-claim-of-requires c κs = search needs
+claim-of-requires c κs =
+    let b = start (c .before) in
+    let a = b .args in
+    in-lots (a .rules) (a .phase) (a .money .now) (a .pieces .now) (a .book) (b .pre) (a .participant) (a .member) Member FillOrKill (none c)
 
 is-fillable-requires : tie.Need-is-fillable-requires
 is-fillable-requires c κs =

@@ -9,7 +9,7 @@ use borrow.Author.Needs.{needs}
 use Rattle.market.specs.Limits.{lentAtLeast, maxMembers, numbersPerTrade}
 use Rattle.market.specs.Linked.{stopped}
 use Rattle.codes.proofs.Numbers.{own-count}
-use Rattle.linked.proofs.Turns.{From, Tells, Turn, few-members, known, numbers, tells-done}
+use Rattle.linked.proofs.Turns.{From, Tells, Turn, few-members, known, makeable, tells-done}
 use Rattle.linked.proofs.Turns.{tells-no, turn-enters, turn-first, turn-long, turn-room, turn-stops, turn-sums}
 use Rattle.linked.proofs.Turns.{turns-end, turns-owner, whole}
 use Rattle.linked.proofs.members_in_turn.Statement.{statement}
@@ -117,7 +117,7 @@ entry-of-requires c κs =
     let y = c .before .before in
     let d = y .before in
     let k = inside d in
-    numbers (k .before .loop .inv) _ (k .loop-test .taken) (d .first-no .result) (d .first-no .ensures) (y .if1 .taken)
+    makeable (k .before .loop .inv) _ (k .loop-test .taken) (d .first-no .result) (d .first-no .ensures) (y .if1 .taken)
 
 mul-enter : tie.Need-mul-enter Inv-loop μ-loop
 mul-enter c = omega (arith, room (inside (c .before .before .before .before .before .before)))

@@ -7,7 +7,6 @@ use mathlib.Core.Path.{_∙_, _≡_, ap, refl, subst, sym}
 use mathlib.Core.List.{List, []}
 use mathlib.Core.Logic.{⊎-elim}
 use lib.ListN.{length, set}
-use borrow.Author.Needs.{needs}
 use Rattle.market.specs.declared.OrderBook.{OrderBook}
 use Rattle.market.specs.Limits.{maxSecurities, maxWaiting, numbersPerTrade}
 use Rattle.market.specs.declared.Rules.{Rules}
@@ -19,36 +18,39 @@ use Rattle.matching.specs.Filling.{Flies, openDay}
 use Rattle.matching.specs.Orders.{coded, waitingIn}
 use Rattle.matching.specs.Search.{rank, top}
 use Rattle.matching.proofs.First.{first-at}
-use Rattle.matching.proofs.Going.{Going, best-lots, found-price, going-ends, going-lent, going-less, going-next}
-use Rattle.matching.proofs.Going.{going-index, going-participant, going-ready, going-room, going-security, going-starts}
+use Rattle.matching.proofs.Going.{Going, best-lots, found-price, going-ends, going-lent, going-less, going-lots, going-next}
+use Rattle.matching.proofs.Going.{going-index, going-participant, going-ready, going-room, going-security, going-starts, going-top}
 use Rattle.matching.proofs.Removal.{Moved, Off, moved-next, moved-starts, off-filled, off-less}
 use Rattle.matching.proofs.Search.{Seeks, rank-below, seek-found, seek-none, seek-starts, seek-stays, seek-takes}
 use Rattle.matching.proofs.fill.Statement.{statement}
 use Rattle.matching.proofs.fill.Tie as tie
 
 abbrev Inv-search : tie.InvT-search
-Inv-search e listing money pieces trades book security left made side reach count best₀ bound₀ i₀ best bound i =
+Inv-search e listing money pieces trades book security wanted left made side reach count best₀ bound₀ i₀ best bound i =
     Seeks e (book .orders) reach count i best bound
 
 abbrev μ-search : tie.MeasureT-search
-μ-search e listing money pieces trades book security left made side reach count best₀ bound₀ i₀ best bound i = count - i
+μ-search e listing money pieces trades book security wanted left made side reach count best₀ bound₀ i₀ best bound i = count - i
 
 abbrev Inv-loop : tie.InvT-loop
-Inv-loop e listing money pieces trades book₀ security left made side reach count best bound i at lots last j₀ book j =
+Inv-loop e listing money pieces trades book₀ security wanted left made side reach count best bound i at waits lots last j₀ book j =
     ((book .codes ≡ book₀ .codes) × (book .turnover ≡ book₀ .turnover)) × Moved (book₀ .orders) (book .orders) at last j
 
 abbrev μ-loop : tie.MeasureT-loop
-μ-loop e listing money pieces trades book₀ security left made side reach count best bound i at lots last j₀ book j = last - j
+μ-loop e listing money pieces trades book₀ security wanted left made side reach count best bound i at waits lots last j₀ book j = last - j
 
 abbrev Inv-fill : tie.InvT-fill
-Inv-fill e listing money₀ pieces₀ trades₀ book₀ security left₀ made₀ side reach money pieces trades book left made =
+Inv-fill e listing money₀ pieces₀ trades₀ book₀ security wanted left₀ made₀ side reach money pieces trades book left made =
     (length (book .orders) ≡ maxWaiting)
     × ((r : Rules) → Flies r listing (coded book₀ e) e money₀ pieces₀
     → Going (record { r = r; l = listing; e = e; m = money₀; k = pieces₀; b = coded book₀ e; v = trades₀ }) money pieces trades
     (coded book e) left made)
 
 abbrev μ-fill : tie.MeasureT-fill
-μ-fill e listing money₀ pieces₀ trades₀ book₀ security left₀ made₀ side reach money pieces trades book left made = book .count + left
+μ-fill e listing money₀ pieces₀ trades₀ book₀ security wanted left₀ made₀ side reach money pieces trades book left made = book .count + left
+
+lots-of-requires : tie.Need-lots-of-requires Inv-search μ-search Inv-loop μ-loop Inv-fill μ-fill
+lots-of-requires c κs = tt
 
 price-of-requires : tie.Need-price-of-requires Inv-search μ-search Inv-loop μ-loop Inv-fill μ-fill
 price-of-requires c κs = tt
@@ -61,7 +63,11 @@ abbrev Begun : Type 0
 Begun = tie.After-rank Inv-search μ-search Inv-loop μ-loop Inv-fill μ-fill
 
 abbrev outset : Begun → tie.Start Inv-search μ-search Inv-loop μ-loop Inv-fill μ-fill
-outset c = c .before .before .before
+outset c = c .before .before .before .before
+
+-- and the entry's lots
+wanted : (c : Begun) → c .before .before .lots-of .result ≡ (outset c) .args .e .lots
+wanted c = c .before .before .lots-of .ensures
 
 own-rank : (c : Begun) → let e = (outset c) .args .e in c .rank .result ≡ rank (e .side) (priceOf e)
 own-rank c = c .rank .ensures ∙ ap (rank ((outset c) .args .e .side)) (c .before .price-of .ensures)
@@ -72,7 +78,7 @@ add-reach c =
     omega (arith, own-rank c, rank-below (p .rules) ((outset c) .args .e) (p .flies .flight .entryPriced))
 
 fill-holds : tie.Need-fill-holds Inv-search μ-search Inv-loop μ-loop Inv-fill μ-fill
-fill-holds c = ((sized-book ((outset c) .args .b) ((outset c) .good .0)) .orders, λ r f. going-starts _ f)
+fill-holds c = ((sized-book ((outset c) .args .b) ((outset c) .good .0)) .orders, λ r f. going-starts _ f (wanted c))
 
 search-holds : tie.Need-search-holds Inv-search μ-search Inv-loop μ-loop Inv-fill μ-fill
 search-holds c =
@@ -178,12 +184,17 @@ lent c = going-lent (going (turn c)) (at c) (some c) (found-at c) ((start c) .pr
 other : (c : Here) → orderAt ((turn c) .fill .book .orders) (at c) ≡ orderAt (waitingIn ((turn c) .fill .book)) (at c)
 other c = let b = (turn c) .fill .book in sym (first-at (b .count) (b .orders) (at c) (index c))
 
-part : (c : tie.After-lesser Inv-search μ-search Inv-loop μ-loop Inv-fill μ-fill) →
-    let f = (turn (c .before .before)) .fill in
-    c .lesser .result ≡ min (f .left) ((orderAt (waitingIn (f .book)) (at (c .before .before))) .lots)
-part c =
+waits : (c : tie.After-lots-of2 Inv-search μ-search Inv-loop μ-loop Inv-fill μ-fill) →
     let k = c .before .before in
-    c .lesser .ensures ∙ ap (λ o. min ((turn k) .fill .left) (o .lots)) (other k)
+    c .lots-of2 .result ≡ (orderAt (waitingIn ((turn k) .fill .book)) (at k)) .lots
+waits c = c .lots-of2 .ensures ∙ ap (λ o. o .lots) (other (c .before .before))
+
+part : (c : tie.After-lesser Inv-search μ-search Inv-loop μ-loop Inv-fill μ-fill) →
+    let k = c .before .before .before in
+    let f = (turn k) .fill in
+    c .lesser .result ≡ min (f .left) ((orderAt (waitingIn (f .book)) (at k)) .lots)
+part c =
+    c .lesser .ensures ∙ ap (min ((turn (c .before .before .before)) .fill .left)) (waits (c .before))
 
 mul-o-2 : tie.Need-mul-o-2 Inv-search μ-search Inv-loop μ-loop Inv-fill μ-fill
 mul-o-2 c = omega (arith, inside c)
@@ -191,34 +202,36 @@ mul-o-2 c = omega (arith, inside c)
 element-copy-out-o-2 : tie.Need-element-copy-out-o-2 Inv-search μ-search Inv-loop μ-loop Inv-fill μ-fill
 element-copy-out-o-2 c = inside c
 
+lots-of-requires-2 : tie.Need-lots-of-requires-2 Inv-search μ-search Inv-loop μ-loop Inv-fill μ-fill
+lots-of-requires-2 c κs = tt
+
 lesser-requires : tie.Need-lesser-requires Inv-search μ-search Inv-loop μ-loop Inv-fill μ-fill
 lesser-requires c κs = tt
 
 with-lots-requires : tie.Need-with-lots-requires Inv-search μ-search Inv-loop μ-loop Inv-fill μ-fill
-with-lots-requires c κs = tt
+with-lots-requires c κs = going-top (going (turn (c .before .before .before)))
 
 mul-turnover : tie.Need-mul-turnover Inv-search μ-search Inv-loop μ-loop Inv-fill μ-fill
-mul-turnover c = omega (arith, known (c .before .before .before))
+mul-turnover c = omega (arith, known (c .before .before .before .before))
 
 element-copy-out-turnover : tie.Need-element-copy-out-turnover Inv-search μ-search Inv-loop μ-loop Inv-fill μ-fill
-element-copy-out-turnover c = known (c .before .before .before)
+element-copy-out-turnover c = known (c .before .before .before .before)
 
 trade-with-requires : tie.Need-trade-with-requires Inv-search μ-search Inv-loop μ-loop Inv-fill μ-fill
 trade-with-requires c κs =
     let w = c .before .before .before .before in
-    let k = w .before .before .before in
+    let k = w .before .before .before .before in
     going-ready (going (turn k)) (at k) (some k) (found-at k) (w .with-lots .ensures) (other k) (part (w .before)) (lent k)
 
 -- the places behind the trade: its lots are known, then its Q and T stand in the book
 abbrev Done : Type 0
-Done = tie.After-struct-known Inv-search μ-search Inv-loop μ-loop Inv-fill μ-fill
+Done = tie.After-slice-known2 Inv-search μ-search Inv-loop μ-loop Inv-fill μ-fill
 
-abbrev sized : tie.After-slice-known2 Inv-search μ-search Inv-loop μ-loop Inv-fill μ-fill
-    → tie.After-with-lots Inv-search μ-search Inv-loop μ-loop Inv-fill μ-fill
+abbrev sized : Done → tie.After-with-lots Inv-search μ-search Inv-loop μ-loop Inv-fill μ-fill
 sized c = c .before .before .before .before .before .before .before
 
 abbrev here : Done → Here
-here c = (sized (c .before)) .before .before .before
+here c = (sized c) .before .before .before .before
 
 abbrev counted : Done → OrderBook
 counted c =
@@ -228,7 +241,7 @@ counted c =
       orders = b .orders;
       count = b .count;
       codes = b .codes;
-      turnover = set (b .turnover) ((start k) .args .e .security) (c .before .before .before .trade-with .result);
+      turnover = set (b .turnover) ((start k) .args .e .security) (c .before .before .trade-with .result);
       filled = b .filled;
       left = b .left;
       trades = b .trades;
@@ -238,11 +251,11 @@ counted c =
 roomy : (c : Done) → (counted c) .count ≤ length ((counted c) .orders)
 roomy c = let k = turn (here c) in omega (arith, going-room (going k), k .fill .inv .0)
 
-mul-t41 : tie.Need-mul-t41 Inv-search μ-search Inv-loop μ-loop Inv-fill μ-fill
-mul-t41 c = omega (arith, known ((sized c) .before .before .before))
+mul-t43 : tie.Need-mul-t43 Inv-search μ-search Inv-loop μ-loop Inv-fill μ-fill
+mul-t43 c = omega (arith, known (here c))
 
 element-set-from-book : tie.Need-element-set-from-book Inv-search μ-search Inv-loop μ-loop Inv-fill μ-fill
-element-set-from-book c = known ((sized c) .before .before .before)
+element-set-from-book c = known (here c)
 
 sub-last : tie.Need-sub-last Inv-search μ-search Inv-loop μ-loop Inv-fill μ-fill
 sub-last c = omega (arith, index (here (c .before)))
@@ -286,33 +299,37 @@ loop-again c =
     (l .inv .0, moved-next (l .inv .1) (omega (arith, roomy d, index (here d))) _ (c .before .loop-test .taken))
 
 sub-with-lots : tie.Need-sub-with-lots Inv-search μ-search Inv-loop μ-loop Inv-fill μ-fill
-sub-with-lots c = omega (arith, c .before .if4 .left)
+sub-with-lots c = omega (arith, c .if4 .left)
 
 with-lots-requires-2 : tie.Need-with-lots-requires-2 Inv-search μ-search Inv-loop μ-loop Inv-fill μ-fill
-with-lots-requires-2 c κs = tt
+with-lots-requires-2 c κs =
+    let d = c .before in
+    let k = here d in
+    omega (arith, waits ((sized d) .before .before), going-lots (going (turn k)) (at k) (some k) (found-at k))
 
-mul-t64 : tie.Need-mul-t64 Inv-search μ-search Inv-loop μ-loop Inv-fill μ-fill
-mul-t64 c = omega (arith, inside (here (c .before .before .before)))
+mul-t66 : tie.Need-mul-t66 Inv-search μ-search Inv-loop μ-loop Inv-fill μ-fill
+mul-t66 c = omega (arith, inside (here (c .before .before)))
 
 element-set-from-book-2 : tie.Need-element-set-from-book-2 Inv-search μ-search Inv-loop μ-loop Inv-fill μ-fill
-element-set-from-book-2 c = inside (here (c .before .before .before))
+element-set-from-book-2 c = inside (here (c .before .before))
 
 -- the lots of the trade are off the order
 abbrev Joined : Type 0
 Joined = tie.Joined4 Inv-search μ-search Inv-loop μ-loop Inv-fill μ-fill
 
-off : (c : Joined) → Off (counted (c .before)) (at (here (c .before))) ((sized (c .before .before)) .before .lesser .result) (c .if4 .book)
+off : (c : Joined) → Off (counted (c .before)) (at (here (c .before))) ((sized (c .before)) .before .lesser .result) (c .if4 .book)
 off c =
     let d = c .before in
     let k = here d in
-    let n = (sized (d .before)) .before .lesser .result in
+    let n = (sized d) .before .lesser .result in
+    let read = (sized d) .before .before .lots-of2 .ensures in
     ⊎-elim
     (λ w.
     subst (Off (counted d) (at k) n) (sym (w .3))
-    (off-filled (counted d) (at k) n (index k) (roomy d) (w .0 .taken) (w .1 .inv .1) (w .2 .left) _ refl refl (w .1 .inv .0 .0) (w .1 .inv .0 .1)))
+    (off-filled (counted d) (at k) n (index k) (roomy d) read (w .0 .taken) (w .1 .inv .1) (w .2 .left) _ refl refl (w .1 .inv .0 .0) (w .1 .inv .0 .1)))
     (λ w.
-    subst (Off (counted d) (at k) n) (sym (w .3))
-    (off-less (counted d) (at k) n (index k) (roomy d) (w .0 .left) (w .2 .result) (w .2 .ensures) _ refl refl refl refl))
+    subst (Off (counted d) (at k) n) (sym (w .2))
+    (off-less (counted d) (at k) n (index k) (roomy d) read (w .0 .left) (w .1 .result) (w .1 .ensures) _ refl refl refl refl))
     (c .if4 .came)
 
 -- the entry's code on top of the codes that the turn began with
@@ -321,7 +338,7 @@ given-on : (k : Here) {l : List ℕ} → l ≡ (turn k) .fill .book .codes →
 given-on k h = let e = (start k) .args .e in ap (λ (l : List ℕ). set l (e .participant) (e .code)) h
 
 sub-left : tie.Need-sub-left Inv-search μ-search Inv-loop μ-loop Inv-fill μ-fill
-sub-left c = rw (part ((sized (c .before .before)) .before)) (min-le-left _ _)
+sub-left c = rw (part ((sized (c .before)) .before)) (min-le-left _ _)
 
 add-made : tie.Need-add-made Inv-search μ-search Inv-loop μ-loop Inv-fill μ-fill
 add-made c =
@@ -330,22 +347,22 @@ add-made c =
 
 fill-less : tie.Need-fill-less Inv-search μ-search Inv-loop μ-loop Inv-fill μ-fill
 fill-less c =
-    let w = sized (c .before .before) in
-    let k = w .before .before .before in
+    let w = sized (c .before) in
+    let k = here (c .before) in
     let o = off c in
     going-less (going (turn k)) (at k) (some k) (found-at k) (w .with-lots .ensures) (other k) (part (w .before))
-    (coded (c .if4 .book) ((start k) .args .e)) (c .before .before .before .before .trade-with .ensures) (o .waiting)
+    (coded (c .if4 .book) ((start k) .args .e)) (c .before .before .before .trade-with .ensures) (o .waiting)
     (given-on k (o .codes)) (o .turnover) (lent k)
 
 fill-again : tie.Need-fill-again Inv-search μ-search Inv-loop μ-loop Inv-fill μ-fill
 fill-again c =
-    let w = sized (c .before .before) in
-    let k = w .before .before .before in
+    let w = sized (c .before) in
+    let k = here (c .before) in
     let o = off c in (
       o .long ∙ (turn k) .fill .inv .0,
       λ r f.
           going-next ((turn k) .fill .inv .1 r f) (at k) (some k) (found-at k) (w .with-lots .ensures) (other k)
-          (part (w .before)) (coded (c .if4 .book) ((start k) .args .e)) (c .before .before .before .before .trade-with .ensures)
+          (part (w .before)) (coded (c .if4 .book) ((start k) .args .e)) (c .before .before .before .trade-with .ensures)
           (o .waiting) (given-on k (o .codes)) (o .turnover) (lent k),
     )
 
@@ -356,15 +373,16 @@ element-write-book : tie.Need-element-write-book Inv-search μ-search Inv-loop �
 element-write-book c = going-participant (going (c .before))
 
 sub-book : tie.Need-sub-book Inv-search μ-search Inv-loop μ-loop Inv-fill μ-fill
-sub-book c = (going (c .before .before)) .less
+sub-book c = rw (wanted (c .before .before)) ((going (c .before)) .less)
 
 same-length : tie.Need-same-length Inv-search μ-search Inv-loop μ-loop Inv-fill μ-fill
-same-length c = (going (c .before .before)) .long
+same-length c = (going (c .before)) .long
 
 returns : tie.Need-returns Inv-search μ-search Inv-loop μ-loop Inv-fill μ-fill
 returns c = λ r g.
-    let f = c .before .before .fill in
-    let e = (outset (c .before .before .before)) .args .e in
+    let f = c .before .fill in
+    let begun = c .before .before in
+    let e = (outset begun) .args .e in
     let d = openDay r (f .money) (f .pieces) (coded (f .book) e) in
     let over : fill d (withLots e (f .left)) ≡ record { day = d; entry = withLots e (f .left); trades = [] } =
     ⊎-elim (λ full. fill-full d (withLots e (f .left)) (omega (arith, full .left)))
@@ -372,8 +390,8 @@ returns c = λ r g.
     fill-none d (withLots e (f .left))
     (best-lots e (f .left) (waitingIn (f .book))
     ∙ seek-none (w .1 .inv) (w .2 .taken) (w .3 .taken)))
-    (c .before .fill-test .came) in
-    going-ends (f .inv .1 r g) over _ refl refl refl refl refl
+    (c .fill-test .came) in
+    going-ends (f .inv .1 r g) over _ refl (ap (λ n. n - f .left) (wanted begun)) refl refl refl
 
 pub fill-spec : {M : Type 1} → statement M
 fill-spec =
@@ -385,6 +403,7 @@ fill-spec =
     μ-loop
     Inv-fill
     μ-fill
+    lots-of-requires
     price-of-requires
     rank-requires
     add-reach
@@ -400,12 +419,13 @@ fill-spec =
     search-again
     mul-o-2
     element-copy-out-o-2
+    lots-of-requires-2
     lesser-requires
     with-lots-requires
     mul-turnover
     element-copy-out-turnover
     trade-with-requires
-    mul-t41
+    mul-t43
     element-set-from-book
     sub-last
     loop-holds
@@ -419,7 +439,7 @@ fill-spec =
     loop-again
     sub-with-lots
     with-lots-requires-2
-    mul-t64
+    mul-t66
     element-set-from-book-2
     sub-left
     add-made

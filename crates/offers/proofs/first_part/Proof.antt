@@ -13,12 +13,12 @@ use Rattle.offers.proofs.first_part.Statement.{statement}
 use Rattle.offers.proofs.first_part.Tie as tie
 
 abbrev Inv-loop : tie.InvT-loop
-Inv-loop at money pieces trades book₀ last entry price rest i₀ book i =
+Inv-loop at money pieces trades book₀ last price lots rest i₀ book i =
     (book .codes ≡ book₀ .codes) × (book .turnover ≡ book₀ .turnover) × (book .code ≡ book₀ .code)
     × Moved (book₀ .orders) (book .orders) at rest i
 
 abbrev μ-loop : tie.MeasureT-loop
-μ-loop at money pieces trades book₀ last entry price rest i₀ book i = rest - i
+μ-loop at money pieces trades book₀ last price lots rest i₀ book i = rest - i
 
 -- the place is before the last one, and all that wait are in the array
 behind : (c : tie.Start Inv-loop μ-loop) → c .args .at + 1 < c .args .b .count
@@ -60,19 +60,25 @@ if-buy-requires-2 c κs = search needs
 offer-price-requires : tie.Need-offer-price-requires Inv-loop μ-loop
 offer-price-requires c κs = search needs
 
--- behind the price
-abbrev start : tie.After-offer-price Inv-loop μ-loop → tie.Start Inv-loop μ-loop
-start c = c .before .before .before .before .before .before .before
+lots-of-requires : tie.Need-lots-of-requires Inv-loop μ-loop
+lots-of-requires c κs = search needs
+
+-- behind price and lots
+abbrev Priced : Type 0
+Priced = tie.After-lots-of Inv-loop μ-loop
+
+abbrev start : Priced → tie.Start Inv-loop μ-loop
+start c = c .before .before .before .before .before .before .before .before
 
 execute-requires : tie.Need-execute-requires Inv-loop μ-loop
 execute-requires c κs =
     let k = c .before .before .before in
     let s = start k in
-    met-ready (s .pre .facing) (s .args .trades .now) (s .pre .lent) (k .before .before .if-buy .ensures) (k .before .if-buy2 .ensures)
-    (k .offer-price .ensures)
+    met-ready (s .pre .facing) (s .args .trades .now) (s .pre .lent) (k .before .before .before .if-buy .ensures)
+    (k .before .before .if-buy2 .ensures) (k .before .offer-price .ensures) (k .lots-of .ensures)
 
 -- behind the trade
-abbrev priced : tie.After-slice-known2 Inv-loop μ-loop → tie.After-offer-price Inv-loop μ-loop
+abbrev priced : tie.After-slice-known2 Inv-loop μ-loop → Priced
 priced c = c .before .before .before .before .before .before
 
 abbrev first : tie.After-slice-known2 Inv-loop μ-loop → tie.Start Inv-loop μ-loop
@@ -126,8 +132,8 @@ same-length c =
     let t = c .before .before in
     let k = priced t in
     let s = start k in
-    met-long (s .pre .facing) (s .args .trades .now) (s .pre .lent) (k .before .before .if-buy .ensures) (k .before .if-buy2 .ensures)
-    (k .offer-price .ensures) (t .before .before .execute .ensures)
+    met-long (s .pre .facing) (s .args .trades .now) (s .pre .lent) (k .before .before .before .if-buy .ensures)
+    (k .before .before .if-buy2 .ensures) (k .before .offer-price .ensures) (k .lots-of .ensures) (t .before .before .execute .ensures)
 
 returns : tie.Need-returns Inv-loop μ-loop
 returns c = λ r x w e facing.
@@ -135,8 +141,8 @@ returns c = λ r x w e facing.
     let k = priced t in
     let s = start k in
     let l = c .before .loop in
-    met-done facing (s .args .trades .now) (s .pre .lent) (k .before .before .if-buy .ensures) (k .before .if-buy2 .ensures)
-    (k .offer-price .ensures) (t .before .before .execute .ensures) (roomy s) (l .inv .3) (c .loop-test .left) _ refl refl
+    met-done facing (s .args .trades .now) (s .pre .lent) (k .before .before .before .if-buy .ensures)
+    (k .before .before .if-buy2 .ensures) (k .before .offer-price .ensures) (k .lots-of .ensures) (t .before .before .execute .ensures) (roomy s) (l .inv .3) (c .loop-test .left) _ refl refl
     (l .inv .0) (l .inv .1) refl refl refl (l .inv .2)
 
 pub first-part-spec : {M : Type 1} → statement M
@@ -155,6 +161,7 @@ first-part-spec =
     if-buy-requires
     if-buy-requires-2
     offer-price-requires
+    lots-of-requires
     execute-requires
     sub-rest
     loop-holds

@@ -1,4 +1,5 @@
 -- `offers::is_counter` meets its contract: security, lots, sides, then price, rate and term.
+use mathlib.Core.Path.{sym}
 use borrow.Author.Needs.{needs}
 use borrow.Author.Tests.{eq-eqb, ne-eqb}
 use Rattle.market.specs.Tests.{_and_}
@@ -11,9 +12,22 @@ returns : tie.Need-returns
 unfolding meets _and_
 returns c = rw (ne-eqb _ _ (c .if1 .taken))
 
+lots-of-requires : tie.Need-lots-of-requires
+lots-of-requires c κs = search needs
+
+lots-of-requires-2 : tie.Need-lots-of-requires-2
+lots-of-requires-2 c κs = search needs
+
 returns-2 : tie.Need-returns-2
 unfolding meets _and_
-returns-2 c = rw (eq-eqb _ _ (c .before .before .before .if1 .left), ne-eqb _ _ (c .if2 .taken))
+returns-2 c =
+    let read = c .before in
+    rw (
+      eq-eqb _ _ (read .before .before .if1 .left),
+      sym (read .before .lots-of .ensures),
+      sym (read .lots-of2 .ensures),
+      ne-eqb _ _ (c .if2 .taken),
+    )
 
 opposite-requires : tie.Need-opposite-requires
 opposite-requires c κs = search needs
@@ -24,6 +38,8 @@ returns-3 c =
     let two = c .before .before in
     rw (
       eq-eqb _ _ (two .before .before .before .if1 .left),
+      sym (two .before .before .lots-of .ensures),
+      sym (two .before .lots-of2 .ensures),
       eq-eqb _ _ (two .if2 .left),
       fails (c .before .opposite .ensures) (c .if3 .taken),
     )
@@ -38,6 +54,8 @@ returns-4 c =
     let two = three .before .before in
     rw (
       eq-eqb _ _ (two .before .before .before .if1 .left),
+      sym (two .before .before .lots-of .ensures),
+      sym (two .before .lots-of2 .ensures),
       eq-eqb _ _ (two .if2 .left),
       holds (three .before .opposite .ensures) (three .if3 .left),
     )
@@ -46,4 +64,4 @@ returns-4 c =
 pub is-counter-spec : {M : Type 1} → statement M
 is-counter-spec =
     tie.close
-    (tie.spec returns returns-2 opposite-requires returns-3 same-offer-requires returns-4)
+    (tie.spec returns lots-of-requires lots-of-requires-2 returns-2 opposite-requires returns-3 same-offer-requires returns-4)

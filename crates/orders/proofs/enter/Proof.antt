@@ -1,11 +1,11 @@
 -- `orders::enter` meets its contract: the need is blocked, the entry matched, and what is left of it waits or is freed,
 -- under all rules that have the entry's listing.
-use Prim.Native.Nat.{ℕ, _-_, _<_}
+use Prim.Native.Nat.{ℕ, _-_, _≤_, _<_}
 use native.Mathlib.Omega.{arith}
 use mathlib.Core.Path.{_≡_, ap, _∙_}
 use Rattle.market.specs.declared.Order.{Order}
 use borrow.Author.Needs.{needs}
-use Rattle.market.specs.Limits.{maxSecurities, maxWaiting}
+use Rattle.market.specs.Limits.{maxLots, maxSecurities, maxWaiting}
 use Rattle.market.specs.declared.Rules.{Rules}
 use Rattle.market.specs.Day.{turnoverAt, withLots}
 use Rattle.market.specs.Positions.{release}
@@ -17,7 +17,7 @@ use Rattle.matching.specs.Orders.{coded}
 use Rattle.waiting.specs.Claims.{moneyWith, piecesWith}
 use Rattle.orders.specs.Entering.{Accepts}
 use Rattle.orders.proofs.Finishing.{waits-part}
-use Rattle.orders.proofs.Accepting.{blockable, flies, freeable, gives-done, gives-waits, listed, index-left}
+use Rattle.orders.proofs.Accepting.{blockable, flies, freeable, gives-done, gives-waits, index-left, left-top, listed}
 use Rattle.orders.proofs.enter.Statement.{statement}
 use Rattle.orders.proofs.enter.Tie as tie
 
@@ -56,9 +56,6 @@ fill-requires c κs =
       flies = flies (p .accepts) (k .block-need .ensures .0) (k .block-need .ensures .1);
       lent = p .lent;
     }
-
-with-lots-requires : tie.Need-with-lots-requires
-with-lots-requires c κs = search needs
 
 left-waiting-requires : tie.Need-left-waiting-requires
 left-waiting-requires c κs = search needs
@@ -102,24 +99,33 @@ done c r accepts =
     let k = blocked c in
     c .fill .ensures r (flies accepts (k .block-need .ensures .0) (k .block-need .ensures .1))
 
+few : (c : Matched) → c .fill .result .left ≤ maxLots
+few c =
+    let k = blocked c in
+    let p = (start k) .pre in
+    left-top (p .accepts) (k .block-need .ensures .0) (k .block-need .ensures .1) (done c (p .rules) (p .accepts))
+
+with-lots-requires : tie.Need-with-lots-requires
+with-lots-requires c κs = few (c .before .before)
+
 sub-with-lots : tie.Need-sub-with-lots
 sub-with-lots c =
-    let w = c .before .before .before .before in
-    omega (arith, w .left-waiting .ensures, waits-part ((start (blocked (matched w))) .args .force) (w .before .with-lots .result))
+    let w = c .before .before .before in
+    omega (arith, waits-is w, waits-part ((start (blocked (matched w))) .args .force) (withLots (entry w) (left w)))
 
 with-lots-requires-2 : tie.Need-with-lots-requires-2
-with-lots-requires-2 c κs = search needs
+with-lots-requires-2 c κs = omega (arith, few (matched (c .before .before .before)))
 
 -- what is freed
 abbrev weighed : tie.After-with-lots2 → Weighed
-weighed c = c .before .before .before .before .before
+weighed c = c .before .before .before .before
 
 dropped-is : (c : tie.After-with-lots2) →
     let w = weighed c in
     c .with-lots2 .result ≡ withLots (withLots (entry w) (left w)) (left w - w .left-waiting .result)
 dropped-is c =
     let w = weighed c in
-    c .with-lots2 .ensures ∙ ap (λ (o : Order). withLots o (o .lots - w .left-waiting .result)) (rest-is w)
+    c .with-lots2 .ensures ∙ ap (λ (o : Order). withLots o (left w - w .left-waiting .result)) (rest-is w)
 
 free-need-requires : tie.Need-free-need-requires
 free-need-requires c κs =

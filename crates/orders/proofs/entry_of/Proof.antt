@@ -7,7 +7,7 @@ claim-of-requires : tie.Need-claim-of-requires
 claim-of-requires c κs = search needs
 
 numbered-requires : tie.Need-numbered-requires
-numbered-requires c κs = rw (c .claim-of .ensures) (c .before .pre)
+numbered-requires c κs = rw (c .claim-of .ensures) (c .before .pre .0)
 
 returns : tie.Need-returns
 returns c = rw (c .numbered .ensures, c .before .claim-of .ensures)

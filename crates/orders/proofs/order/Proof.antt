@@ -1,9 +1,9 @@
 -- `orders::order` meets its contract: question 2, those from 4 to 14, question 15, then the order waits while collecting, or
 -- enters.
-use Prim.Native.Nat.{_<_}
+use Prim.Native.Nat.{_≤_, _<_}
 use native.Mathlib.Omega.{arith}
 use mathlib.Core.Path.{ap, _≡_, refl, sym, _∙_}
-use Rattle.market.specs.Limits.{maxSecurities}
+use Rattle.market.specs.Limits.{maxLots, maxSecurities}
 use Rattle.market.specs.View.{dayOf}
 use Rattle.market.specs.declared.Access.{Access}
 use Rattle.market.specs.Phases.{orderAccess}
@@ -11,7 +11,7 @@ use Rattle.market.specs.Questions.{entryQuestions, firstNo}
 use Rattle.matching.specs.Orders.{waitingIn}
 use Rattle.amounts.proofs.Answers.{fails, holds}
 use Rattle.orders.specs.Entering.{claimWith, fillableIn}
-use Rattle.orders.proofs.Calling.{appendable, enterable, few-lots, in-table, numberable, order-enters, order-waits, refuse-first}
+use Rattle.orders.proofs.Calling.{appendable, enterable, few-lots, in-lots, in-table, numberable, order-enters, order-waits, refuse-first}
 use Rattle.orders.proofs.Calling.{refuse-short, refuse-whole, rules-known}
 use borrow.Author.Needs.{needs}
 use Rattle.orders.proofs.order.Statement.{statement}
@@ -73,8 +73,15 @@ none : (c : tie.Else2) →
     ≡ 0
 none c = omega (arith, c .if2 .left, first (c .before))
 
+in-range : (c : tie.Else2) → (start (c .before)) .args .ticket .lots ≤ maxLots
+in-range c =
+    let b = start (c .before) in
+    let a = b .args in
+    in-lots (a .rules) (a .phase) (a .money .now) (a .pieces .now) (a .b) (b .pre) (a .participant) (a .ticket) (a .force)
+    (a .trades .now) ((lent (c .before)) .if1 .left) (none c)
+
 claim-of-requires : tie.Need-claim-of-requires
-claim-of-requires c κs = search needs
+claim-of-requires c κs = in-range c
 
 is-fillable-requires : tie.Need-is-fillable-requires
 is-fillable-requires c κs =
@@ -114,9 +121,11 @@ entry-of-requires : tie.Need-entry-of-requires
 entry-of-requires c κs =
     let k = asked c in
     let b = start (k .before) in
-    let a = b .args in
-    numberable (a .rules) (a .phase) (a .money .now) (a .pieces .now) (a .b) (b .pre) (a .participant) (a .ticket) (a .force)
-    (a .trades .now) ((lent (k .before)) .if1 .left) (none k)
+    let a = b .args in (
+      numberable (a .rules) (a .phase) (a .money .now) (a .pieces .now) (a .b) (b .pre) (a .participant) (a .ticket) (a .force)
+          (a .trades .now) ((lent (k .before)) .if1 .left) (none k),
+      in-range k,
+    )
 
 listed : (c : tie.Else3) → (start ((asked c) .before)) .args .ticket .security < maxSecurities
 listed c =

@@ -23,11 +23,11 @@ use Rattle.matching.proofs.Removal.{Moved, moved-next, moved-starts}
 use Rattle.matching.proofs.Search.{Searched, search-ends, search-starts, search-step}
 use Rattle.pairing.specs.Pairing.{Counts, Meets}
 use Rattle.pairing.proofs.Closing.{both-decided}
-use Rattle.pairing.proofs.Going.{Going, going-apart, going-buy, going-counts, going-less, going-lots, going-next}
+use Rattle.pairing.proofs.Going.{Going, going-apart, going-buy, going-counts, going-within, going-less, going-lots, going-next}
 use Rattle.pairing.proofs.Going.{going-no-buy, going-no-sell, going-ready, going-room, going-security}
 use Rattle.pairing.proofs.Going.{going-sell, going-starts}
 use Rattle.pairing.proofs.Going as going
-use Rattle.pairing.proofs.Taking.{Same, Taken, Taking, taken-filled, taken-less, taken-long, taken-same, taking-ends}
+use Rattle.pairing.proofs.Taking.{Same, Taken, Taking, taken-filled, taken-less, taken-long, taken-same, taken-top, taking-ends}
 use Rattle.pairing.proofs.Taking.{taking-next, taking-starts}
 use Rattle.pairing.proofs.pair_all.Statement.{statement}
 use Rattle.pairing.proofs.pair_all.Tie as tie
@@ -41,11 +41,11 @@ abbrev μ-search : tie.MeasureT-search
     count - i
 
 abbrev Inv-shift : tie.InvT-shift
-Inv-shift security limit price listing money pieces trades book₀ turnover seller buyer made count i at to lots earlier place last j₀ book j =
+Inv-shift security limit price listing money pieces trades book₀ turnover seller buyer made count i at to lots earlier place waits last j₀ book j =
     Same book₀ book × Moved (book₀ .orders) (book .orders) place last j
 
 abbrev μ-shift : tie.MeasureT-shift
-μ-shift security limit price listing money pieces trades book₀ turnover seller buyer made count i at to lots earlier place last j₀ book j =
+μ-shift security limit price listing money pieces trades book₀ turnover seller buyer made count i at to lots earlier place waits last j₀ book j =
     last - j
 
 abbrev Inv-off : tie.InvT-off
@@ -279,7 +279,7 @@ other : (c : Here) → orderAt ((turn c) .pairs .book .orders) (to c) ≡ orderA
 other c = let b = (turn c) .pairs .book in sym (first-at (b .count) (b .orders) (to c) (sell-index c))
 
 abbrev here : tie.After-lesser Inv-search μ-search Inv-shift μ-shift Inv-off μ-off Inv-pairs μ-pairs → Here
-here c = c .before .before .before
+here c = c .before .before .before .before .before
 
 part : (c : tie.After-lesser Inv-search μ-search Inv-shift μ-shift Inv-off μ-off Inv-pairs μ-pairs) →
     let k = here c in
@@ -288,9 +288,9 @@ part : (c : tie.After-lesser Inv-search μ-search Inv-shift μ-shift Inv-off μ-
 part c =
     let k = here c in
     let b = (turn k) .pairs .book in
-    c .lesser .ensures
-    ∙ ap (λ (o : Order). min (o .lots) ((orderAt (b .orders) (to k)) .lots)) (one k)
-    ∙ ap (λ (o : Order). min ((orderAt (waitingIn b) (at k)) .lots) (o .lots)) (other k)
+    let bought = c .before .before .lots-of .ensures ∙ ap (λ (o : Order). o .lots) (one k) in
+    let sold = c .before .lots-of2 .ensures ∙ ap (λ (o : Order). o .lots) (other k) in
+    c .lesser .ensures ∙ ap (λ n. min n (c .before .lots-of2 .result)) bought ∙ ap (min ((orderAt (waitingIn b) (at k)) .lots)) sold
 
 mul-buy : tie.Need-mul-buy Inv-search μ-search Inv-shift μ-shift Inv-off μ-off Inv-pairs μ-pairs
 mul-buy c = omega (arith, buy-inside c)
@@ -303,6 +303,12 @@ mul-sell c = omega (arith, sell-inside (c .before))
 
 element-copy-out-sell : tie.Need-element-copy-out-sell Inv-search μ-search Inv-shift μ-shift Inv-off μ-off Inv-pairs μ-pairs
 element-copy-out-sell c = sell-inside (c .before)
+
+lots-of-requires : tie.Need-lots-of-requires Inv-search μ-search Inv-shift μ-shift Inv-off μ-off Inv-pairs μ-pairs
+lots-of-requires c κs = tt
+
+lots-of-requires-2 : tie.Need-lots-of-requires-2 Inv-search μ-search Inv-shift μ-shift Inv-off μ-off Inv-pairs μ-pairs
+lots-of-requires-2 c κs = tt
 
 lesser-requires : tie.Need-lesser-requires Inv-search μ-search Inv-shift μ-shift Inv-off μ-off Inv-pairs μ-pairs
 lesser-requires c κs = tt
@@ -341,6 +347,7 @@ off-holds c =
     let k = spot c in
     taking-starts ((turn k) .pairs .book) (at k) (to k) _ _ _ (roomy (turn k)) (buy-index k) (sell-index k)
     (going-apart (goes (turn k)) _ _ _ _ (buy-found k) (sell-found k)) (c .before .earlier-of .ensures) (c .later-of .ensures)
+    (going-within (goes (turn k)))
 
 -- the order that loses lots stands in the array
 abbrev Taker : Type 0
@@ -354,6 +361,9 @@ mul-o-2 c = omega (arith, stands c)
 
 element-copy-out-o-2 : tie.Need-element-copy-out-o-2 Inv-search μ-search Inv-shift μ-shift Inv-off μ-off Inv-pairs μ-pairs
 element-copy-out-o-2 c = stands c
+
+lots-of-requires-3 : tie.Need-lots-of-requires-3 Inv-search μ-search Inv-shift μ-shift Inv-off μ-off Inv-pairs μ-pairs
+lots-of-requires-3 c κs = tt
 
 sub-last : tie.Need-sub-last Inv-search μ-search Inv-shift μ-shift Inv-off μ-off Inv-pairs μ-pairs
 sub-last c = omega (arith, c .before .before .before .off .inv .inside)
@@ -403,16 +413,18 @@ shift-again c =
     )
 
 sub-with-lots : tie.Need-sub-with-lots Inv-search μ-search Inv-shift μ-shift Inv-off μ-off Inv-pairs μ-pairs
-sub-with-lots c = omega (arith, c .before .if2 .left)
+sub-with-lots c = omega (arith, c .if2 .left)
 
 with-lots-requires : tie.Need-with-lots-requires Inv-search μ-search Inv-shift μ-shift Inv-off μ-off Inv-pairs μ-pairs
-with-lots-requires c κs = tt
+with-lots-requires c κs =
+    let read = c .before in
+    omega (arith, taken-top (read .before .before .off .inv) (read .lots-of3 .ensures))
 
-mul-t70 : tie.Need-mul-t70 Inv-search μ-search Inv-shift μ-shift Inv-off μ-off Inv-pairs μ-pairs
-mul-t70 c = omega (arith, stands (c .before .before .before .before .before))
+mul-t73 : tie.Need-mul-t73 Inv-search μ-search Inv-shift μ-shift Inv-off μ-off Inv-pairs μ-pairs
+mul-t73 c = omega (arith, stands (c .before .before .before .before))
 
 element-set-from-book : tie.Need-element-set-from-book Inv-search μ-search Inv-shift μ-shift Inv-off μ-off Inv-pairs μ-pairs
-element-set-from-book c = stands (c .before .before .before .before .before)
+element-set-from-book c = stands (c .before .before .before .before)
 
 -- the lots are off the order
 abbrev Joined : Type 0
@@ -428,14 +440,15 @@ off : (c : Joined) → Taken ((taker c) .off .book) ((taker c) .off .place) (lot
 off c =
     let t = taker c in
     let b = t .off .book in
+    let read = c .before .lots-of3 .ensures in
     ⊎-elim
     (λ w.
     subst (Taken b (t .off .place) (lots t)) (sym (w .3))
-    (taken-filled (t .off .inv) (w .0 .taken) (w .1 .inv .1) (w .2 .left) _ refl refl
+    (taken-filled (t .off .inv) read (w .0 .taken) (w .1 .inv .1) (w .2 .left) _ refl refl
     (let i = w .1 .inv .0 in record { codes = i .codes; turnover = i .turnover; filled = i .filled; left = i .left })))
     (λ w.
-    subst (Taken b (t .off .place) (lots t)) (sym (w .3))
-    (taken-less (t .off .inv) (w .0 .left) (w .2 .result) (w .2 .ensures) _ refl refl
+    subst (Taken b (t .off .place) (lots t)) (sym (w .2))
+    (taken-less (t .off .inv) read (w .0 .left) (w .1 .result) (w .1 .ensures) _ refl refl
     (record { codes = refl; turnover = refl; filled = refl; left = refl })))
     (c .if2 .came)
 
@@ -579,6 +592,8 @@ pair-all-spec =
     element-copy-out-buy
     mul-sell
     element-copy-out-sell
+    lots-of-requires
+    lots-of-requires-2
     lesser-requires
     execute-requires
     earlier-of-requires
@@ -586,6 +601,7 @@ pair-all-spec =
     off-holds
     mul-o-2
     element-copy-out-o-2
+    lots-of-requires-3
     sub-last
     shift-holds
     add-later
@@ -598,7 +614,7 @@ pair-all-spec =
     shift-again
     sub-with-lots
     with-lots-requires
-    mul-t70
+    mul-t73
     element-set-from-book
     off-less
     off-again

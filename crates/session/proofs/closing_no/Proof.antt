@@ -5,7 +5,7 @@ use mathlib.Core.Path.{_≡_}
 use Rattle.market.specs.Limits.{maxParticipants, maxSecurities}
 use Rattle.market.specs.Questions.{firstNo}
 use Rattle.session.specs.Asking.{earlyClosing}
-use Rattle.session.proofs.Asking.{in-counts, in-rules, no-early, no-later, reckonable}
+use Rattle.session.proofs.Asking.{in-counts, in-lots, in-rules, no-early, no-later, reckonable}
 use borrow.Author.Needs.{needs}
 use Rattle.session.proofs.closing_no.Statement.{statement}
 use Rattle.session.proofs.closing_no.Tie as tie
@@ -60,7 +60,11 @@ array-read-own : tie.Need-array-read-own
 array-read-own c = own (c .before .before .before)
 
 closing-claim-requires : tie.Need-closing-claim-requires
-closing-claim-requires c κs = search needs
+closing-claim-requires c κs =
+    let k = c .before .before .before in
+    let b = start k in
+    let a = b .args in
+    in-lots (a .rules) (a .phase) (a .t5) (a .participant) (a .side) (a .security) (a .lots) (b .pre) (none k)
 
 later-closing-no-requires : tie.Need-later-closing-no-requires
 later-closing-no-requires c κs =

@@ -7,7 +7,7 @@ closing-claim-requires : tie.Need-closing-claim-requires
 closing-claim-requires c κs = search needs
 
 numbered-requires : tie.Need-numbered-requires
-numbered-requires c κs = rw (c .closing-claim .ensures) (c .before .pre)
+numbered-requires c κs = rw (c .closing-claim .ensures) (c .before .pre .0)
 
 returns : tie.Need-returns
 returns c = rw (c .numbered .ensures, c .before .closing-claim .ensures)

@@ -5,7 +5,7 @@ use mathlib.Core.Path.{_≡_, refl}
 use Rattle.market.specs.Limits.{maxSecurities}
 use Rattle.market.specs.View.{dayOf}
 use Rattle.market.specs.Questions.{closingQuestions, firstNo}
-use Rattle.session.proofs.Asking.{appendable, appended, askable, in-table, numberable, refuse}
+use Rattle.session.proofs.Asking.{appendable, appended, askable, in-table, makeable, refuse}
 use borrow.Author.Needs.{needs}
 use Rattle.session.proofs.enter_closing_order.Statement.{statement}
 use Rattle.session.proofs.enter_closing_order.Tie as tie
@@ -50,7 +50,7 @@ closing-order-requires : tie.Need-closing-order-requires
 closing-order-requires c κs =
     let b = start (c .before) in
     let a = b .args in
-    numberable (a .rules) (a .phase) (a .money .now) (a .pieces .now) (a .b) (b .pre) (a .participant) (a .side) (a .security)
+    makeable (a .rules) (a .phase) (a .money .now) (a .pieces .now) (a .b) (b .pre) (a .participant) (a .side) (a .security)
     (a .lots) (none c)
 
 listed : (c : tie.Else1) → (start (c .before)) .args .security < maxSecurities

@@ -37,11 +37,15 @@ mul-book c = omega (arith, append-participant ((start c) .pre .admits))
 element-write-book : tie.Need-element-write-book
 element-write-book c = append-participant ((start c) .pre .admits)
 
+lots-of-requires : tie.Need-lots-of-requires
+lots-of-requires c κs = tt
+
 returns : tie.Need-returns
 returns c = λ r x a.
-    let b = start c in
-    append-done a (omega (arith, room c, (sized-book (b .args .b) (b .good .0)) .orders)) (c .block-need .ensures .0)
-    (c .block-need .ensures .1)
+    let k = c .before in
+    let b = start k in
+    append-done a (omega (arith, room k, (sized-book (b .args .b) (b .good .0)) .orders)) (k .block-need .ensures .0)
+    (k .block-need .ensures .1) (c .lots-of .ensures)
 
 pub append-spec : {M : Type 1} → statement M
 append-spec =
@@ -55,4 +59,5 @@ append-spec =
     add-book
     mul-book
     element-write-book
+    lots-of-requires
     returns)

@@ -3,7 +3,7 @@
 use super::day::{highest_steps, Day};
 use super::NEVER;
 use crate::calls::{Call, Entry, EntryKind, Phase, Side};
-use crate::engine::PRICE_LIMIT;
+use crate::engine::{LOTS_LIMIT, PRICE_LIMIT};
 
 /// How the kept orders of a collecting phase are drawn, and how long it lasts:
 /// up to a length of the text or a number of waiting orders. Few prices and
@@ -16,6 +16,16 @@ pub(super) struct Collecting {
     prices: u64,
     most_lots: u64,
     eager_percent: u64,
+}
+
+/// So many orders, and so eager, that large lots are more than sixteen bits hold.
+fn large(collecting: Collecting) -> Collecting {
+    Collecting {
+        most_orders: collecting.most_orders.max(30),
+        most_lots: LOTS_LIMIT,
+        eager_percent: collecting.eager_percent.max(50),
+        ..collecting
+    }
 }
 
 impl Day {
@@ -32,6 +42,9 @@ impl Day {
             _ => {}
         }
         self.collecting = self.any_collecting();
+        if self.plan.large_percent > 0 {
+            self.collecting = large(self.collecting);
+        }
         self.add(Call::StartCollecting);
     }
 
@@ -116,12 +129,13 @@ impl Day {
         let security = self.security();
         let lots = self.lots();
         let few_lots = self.random.within(1, self.collecting.most_lots);
+        let any_percent = self.plan.large_percent.max(3);
         Entry {
             participant: self.participant(),
             side,
             security,
             price: self.collected_price(side, security),
-            lots: if self.random.chance(3) {
+            lots: if self.random.chance(any_percent) {
                 lots
             } else {
                 few_lots

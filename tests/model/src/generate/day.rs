@@ -93,6 +93,7 @@ impl Day {
             Phase::Collecting => self.write_collecting(),
             Phase::Open if length >= self.plan.closing_at => self.add(Call::StartClosing),
             Phase::Closing if length >= self.plan.ending_at => self.add(Call::EndSession),
+            Phase::Open if self.planned(self.plan.wall_percent) => self.write_wall(),
             Phase::Open => self.write_trading(),
             Phase::Closing => self.write_closing(),
             Phase::Closed => self.write_closed(),
@@ -184,6 +185,11 @@ impl Day {
             14 => self.write_tight_second_part(),
             _ => self.write_unfit_day(),
         }
+    }
+
+    /// Days that plan none take no random number here.
+    pub(super) fn planned(&mut self, percent: u64) -> bool {
+        percent > 0 && self.random.chance(percent)
     }
 
     pub(super) fn weighted(&mut self, weights: &[u64]) -> usize {

@@ -7,6 +7,10 @@ use crate::engine::{Engine, LOTS_LIMIT, MONEY_LIMIT, PIECES_LIMIT};
 /// How far prices lie from their base.
 const FURTHEST_STEPS: u64 = 4;
 
+/// Seven of them are more than sixteen bits hold; the last leaves one lot of the
+/// others.
+const LARGE_LOTS: [u64; 4] = [LOTS_LIMIT, LOTS_LIMIT, LOTS_LIMIT, LOTS_LIMIT - 1];
+
 /// What an order is asked for: the free amount, and what is to be blocked.
 pub(super) fn free_and_need(engine: &Engine, entry: &Entry) -> (u64, u64) {
     let participant = entry.participant as usize;
@@ -51,6 +55,9 @@ impl Day {
     }
 
     pub(super) fn lots(&mut self) -> u64 {
+        if self.planned(self.plan.large_percent) {
+            return self.random.pick(&LARGE_LOTS);
+        }
         match self.random.below(50) {
             0 => LOTS_LIMIT,
             1 => self.random.within(1, LOTS_LIMIT),

@@ -3,6 +3,7 @@
 use super::day::{highest_steps, Day};
 use crate::calls::{Call, Member, Offer};
 use crate::engine::{highest_price, LOTS_LIMIT, PRICE_LIMIT};
+use crate::sixteen_bits::SIXTEEN_BITS;
 
 /// Numbers at, just below and just above the limits.
 const EDGES: [u64; 32] = [
@@ -45,6 +46,9 @@ const DEAL_EDGES: [u64; 18] = [
     0, 1, 2, 63, 64, 65, 364, 365, 366, 367, 4_999, 5_000, 5_001, 10_000, 146_095, 146_096,
     146_097, 146_462,
 ];
+
+/// Lots of which sixteen bits would leave none, one and the most.
+const CUT_LOTS: [u64; 3] = [SIXTEEN_BITS, SIXTEEN_BITS + 1, SIXTEEN_BITS + LOTS_LIMIT];
 
 impl Day {
     pub(super) fn spoil_member(&mut self, member: &mut Member) {
@@ -96,11 +100,28 @@ impl Day {
             8 => self.second_part(),
             _ => self.new_day(),
         };
-        let spoiled = self.random.pick(&[1, 1, 1, 2, 2, 3]);
-        for _ in 0..spoiled {
-            self.spoil_number(&mut call);
+        let mut lots = lots_of(&mut call);
+        if !lots.is_empty() && self.planned(self.plan.cut_percent) {
+            let place = self.random.index(lots.len());
+            *lots[place] = self.cut_lots(*lots[place]);
+        } else {
+            self.spoil_numbers(&mut call);
         }
         self.add(call);
+    }
+
+    /// Too many, but what sixteen bits leave is mostly the good call's.
+    fn cut_lots(&mut self, lots: u64) -> u64 {
+        let times = self.random.pick(&[1, 1, 2, 15, 1 << 16, 1 << 32]);
+        let same = lots % SIXTEEN_BITS + times * SIXTEEN_BITS;
+        let edge = self.random.pick(&CUT_LOTS);
+        self.random.pick(&[same, same, edge])
+    }
+
+    fn spoil_numbers(&mut self, call: &mut Call) {
+        for _ in 0..self.random.pick(&[1, 1, 1, 2, 2, 3]) {
+            self.spoil_number(call);
+        }
     }
 
     /// Puts one of the call's numbers at an edge, or one off.
@@ -165,6 +186,16 @@ fn numbers_of(call: &mut Call) -> Vec<&mut u64> {
         Call::StartCollecting | Call::EndCollecting | Call::StartClosing | Call::EndSession => {
             Vec::new()
         }
+    }
+}
+
+fn lots_of(call: &mut Call) -> Vec<&mut u64> {
+    match call {
+        Call::Enter(entry) => vec![&mut entry.lots],
+        Call::EnterClosing(entry) => vec![&mut entry.lots],
+        Call::EnterOffer(offer) => vec![&mut offer.lots],
+        Call::Group { members, .. } => members.iter_mut().map(|member| &mut member.lots).collect(),
+        _ => Vec::new(),
     }
 }
 

@@ -6,6 +6,9 @@ use Rattle.script.proofs.Lengths.{ends}
 use Rattle.script.proofs.ending.put_order.Statement.{statement}
 use Rattle.script.proofs.ending.put_order.Tie as tie
 
+lots-of-requires : tie.Need-lots-of-requires
+lots-of-requires c κs = search needs
+
 slice-aggregate-put-bytes : tie.Need-slice-aggregate-put-bytes
 slice-aggregate-put-bytes c = search needs
 
@@ -50,6 +53,7 @@ pub put-order-spec : {M : Type 1} → statement M
 put-order-spec =
     tie.close
     (tie.spec
+    lots-of-requires
     slice-aggregate-put-bytes
     put-bytes-requires
     slice-aggregate-put-fields
