@@ -12,7 +12,7 @@ use Rattle.market.specs.declared.Rules.{Rules}
 use Rattle.market.specs.declared.Asset.{Asset}
 use Rattle.market.specs.declared.Asset.TheVariants.{Money, Pieces}
 use Rattle.market.specs.Day.{Day, blocked_at, columns_of, free_at, no_order, no_turnover, order_at}
-use Rattle.market.specs.Day.{cell, positions, total_limit}
+use Rattle.market.specs.Day.{cell, positions}
 use Rattle.market.specs.Codes.{codes_of, given}
 use Rattle.market.specs.Needs.{need_at}
 use Rattle.market.specs.Sound.{needs_at, sound}

@@ -14,7 +14,6 @@ use Rattle.market.specs.declared.Rules.{Rules}
 use Rattle.market.specs.Day.{Day, no_order, order_at, with_lots}
 use Rattle.market.specs.Codes.{codes_of}
 use Rattle.market.specs.Positions.{settle}
-use Rattle.market.specs.Waiting.{take_off}
 use Rattle.market.specs.TradeList.{trade_of}
 use Rattle.market.specs.Matching.{Filled, buy_of, fill, fits, fitting, found, if_buy, lots_at, sell_of, traded}
 use Rattle.market.specs.Matching.{with_trade}

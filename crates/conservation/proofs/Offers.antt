@@ -1,7 +1,5 @@
 -- An accepted offer keeps Good: in the book it "waits like a kept order", and a first part leaves Q and T alone (T-06).
-use Prim.Native.Nat.{ℕ, ◌≤◌}
 use native.Mathlib.Omega.{arith}
-use mathlib.Core.Path.{◌≡◌}
 use mathlib.Core.List.{[], ◌∷◌, ◌++◌}
 use lib.ListN.{length}
 use Rattle.market.specs.declared.Order.{Order}

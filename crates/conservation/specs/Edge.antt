@@ -1,5 +1,5 @@
 -- The book where two members have the same code (T-07), computed: an order is named by participant and code.
-use Rattle.std.specs.Prelude.{ℕ, ◌≡◌, refl, List, [], ◌∷◌}
+use Rattle.std.specs.Prelude.{ℕ, ◌≡◌, refl, [], ◌∷◌}
 use Rattle.market.specs.declared.Kind.TheVariants as kind
 use Rattle.market.specs.declared.Side.TheVariants.{Buy}
 use Rattle.market.specs.Tests.{◌and◌, sum_of}

@@ -1,7 +1,7 @@
 -- A call on the parts of a sound day, refused or accepted, as its contract asks for it.
 use Prim.Native.Nat.{ℕ, zero, suc, ◌<◌}
 use native.Mathlib.Omega.{arith}
-use mathlib.Core.Path.{◌≡◌, refl, ap, sym, ◌∙◌}
+use mathlib.Core.Path.{◌≡◌, ap, sym, ◌∙◌}
 use mathlib.Core.List.{List}
 use mathlib.Core.Bool.{true}
 use lib.ListN.{length}
@@ -16,7 +16,7 @@ use Rattle.market.specs.Sound.{sound}
 use Rattle.market.specs.TradeList.{written}
 use Rattle.market.specs.Calls.{Call}
 use Rattle.market.specs.Questions.{first_no, questions}
-use Rattle.market.specs.Step.{Reply, effect, step}
+use Rattle.market.specs.Step.{Reply, effect}
 use Rattle.market.specs.Parts.{Carries}
 use Rattle.market.proofs.Step.{step_accepted, step_refused}
 

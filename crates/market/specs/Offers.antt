@@ -1,5 +1,5 @@
 -- Repurchase offers (T-06): which meets which, and what an accepted one does to the day.
-use Rattle.std.specs.Prelude.{ℕ, List, Bool, true, false, length}
+use Rattle.std.specs.Prelude.{ℕ, List, Bool, false, length}
 use Rattle.market.specs.declared.Kind.{Kind}
 use Rattle.market.specs.declared.Kind.TheVariants as kind
 use Rattle.market.specs.declared.Order.{Order}

@@ -1,4 +1,5 @@
 // The types of a trading day, in document 01's words, and its limits.
+#![tactic(auto)]
 
 ghost use Rattle.std.specs.Prelude.{◌≡◌, ◌≤◌};
 ghost use Rattle.market.specs.declared.Answer.TheVariants.{Done, Refused};
@@ -107,20 +108,20 @@ pub fn limits() -> [u64; 28]
 }
 
 // What a position is held in.
-#[derive(Drop)]
+#[derive(Clone, Copy)]
 pub enum Asset {
     Money,
     Pieces,
 }
 
-#[derive(Drop)]
+#[derive(Clone, Copy)]
 pub enum Side {
     Buy,
     Sell,
 }
 
 // Kept orders are collected for the auction (T-02) before trading opens.
-#[derive(Drop)]
+#[derive(Clone, Copy)]
 pub enum Phase {
     Open,
     Collecting,
@@ -130,7 +131,7 @@ pub enum Phase {
 
 // Kind of a waiting order; a kept one has a price. A repurchase offer (T-06) has rate, term and price, and waits among the orders:
 // rate and term lie where a kept one has padding, so that no order grows.
-#[derive(Drop)]
+#[derive(Clone, Copy)]
 pub enum Kind {
     Kept(u64),
     Closing,
@@ -138,7 +139,7 @@ pub enum Kind {
 }
 
 // How an order enters: kept (K), immediate (I), whole or nothing (A).
-#[derive(Drop)]
+#[derive(Clone, Copy)]
 pub enum TimeInForce {
     Kept,
     ImmediateOrCancel,
@@ -146,7 +147,7 @@ pub enum TimeInForce {
 }
 
 // The calls that question 6 is asked of, each kind of order a call of its own, and so a member of a group.
-#[derive(Drop)]
+#[derive(Clone, Copy)]
 pub enum Access {
     Kept,
     ImmediateOrCancel,
@@ -162,7 +163,7 @@ pub enum Access {
 }
 
 // With a nominal its prices are hundredths of a percent of that; with 0, none, they are minor units.
-#[derive(Drop)]
+#[derive(Clone, Copy)]
 pub struct Security {
     pub currency: u64,
     pub lot: u64,
@@ -171,7 +172,7 @@ pub struct Security {
 }
 
 // Q and T of a security, traded while open: its pieces, and price × pieces.
-#[derive(Drop)]
+#[derive(Clone, Copy)]
 pub struct Turnover {
     pub pieces: u64,
     pub value: u64,
@@ -179,7 +180,7 @@ pub struct Turnover {
 
 // A waiting order: its participant's own code, and the arrival number, which is never shown. Lots (T-08) and arrival lie in
 // what a side leaves free; only `lots_of` and `with_lots` know how wide lots are.
-#[derive(Drop)]
+#[derive(Clone, Copy)]
 pub struct Order {
     pub code: u64,
     pub participant: u64,
@@ -191,7 +192,7 @@ pub struct Order {
 }
 
 // What an order says; a linked group's members are such.
-#[derive(Drop)]
+#[derive(Clone, Copy)]
 pub struct Ticket {
     pub side: Side,
     pub security: u64,
@@ -200,7 +201,7 @@ pub struct Ticket {
 }
 
 // The opening's arguments, which nothing changes: counts, security table, and the rate of the tariff in hundred-thousandths.
-#[derive(Drop)]
+#[derive(Clone, Copy)]
 pub struct Rules {
     pub participants: u64,
     pub currencies: u64,
@@ -210,14 +211,14 @@ pub struct Rules {
 }
 
 // A security as it is traded here: its row of the table, and the rate. Needs and fees are reckoned from it.
-#[derive(Drop)]
+#[derive(Clone, Copy)]
 pub struct Listing {
     pub row: Security,
     pub rate: u64,
 }
 
 // A move of reserves: participant, currency or security, amount.
-#[derive(Drop)]
+#[derive(Clone, Copy)]
 pub enum Move {
     IncreaseMoney(u64, u64, u64),
     DecreaseMoney(u64, u64, u64),
@@ -226,14 +227,14 @@ pub enum Move {
 }
 
 // What has a start and an end of its own: the closing session, and collecting, which ends with the auction.
-#[derive(Drop)]
+#[derive(Clone, Copy)]
 pub enum Session {
     Closing,
     Collecting,
 }
 
 // A call with its arguments; the members of a group stand beside it.
-#[derive(Drop)]
+#[derive(Clone, Copy)]
 pub enum Call {
     Reserve(Move),
     // Participant and order.
@@ -249,7 +250,7 @@ pub enum Call {
 }
 
 // An open repurchase deal (T-06): what both offers said, who first bought and sold, and its first day. What it costs follows.
-#[derive(Drop)]
+#[derive(Clone, Copy)]
 pub struct Deal {
     pub price: u32,
     pub first: u32,
@@ -263,7 +264,7 @@ pub struct Deal {
 
 // What lasts from day to day beside positions and rules: the date, in days from 1970, and the open deals (the first `count`),
 // oldest first.
-#[derive(Drop)]
+#[derive(Clone, Copy)]
 pub struct Records {
     pub date: u64,
     pub count: usize,
@@ -273,7 +274,7 @@ pub struct Records {
 // A position's cell is participant * 16 + currency or security, free at twice that cell and blocked behind it; the row
 // behind the participants' 16 is the market's own account. The first `count` orders wait. `codes` are those given, of each
 // participant.
-#[derive(Drop)]
+#[derive(Clone, Copy)]
 pub struct State {
     pub participants: u64,
     pub currencies: u64,
@@ -291,7 +292,7 @@ pub struct State {
 }
 
 // Refused(number, place) or Done(code, filled, left, trades).
-#[derive(Drop)]
+#[derive(Clone, Copy)]
 pub enum Answer {
     Refused(u64, u64),
     Done(u64, u64, u64, u64),
@@ -299,7 +300,7 @@ pub enum Answer {
 
 // What order entry changes besides the positions: the waiting orders (the first `count`), codes given, Q and T; and of
 // the last entry the lots filled, the lots left, its trades and its code, so that `book = call(book, ..)` writes over `book`.
-#[derive(Drop)]
+#[derive(Clone, Copy)]
 pub struct OrderBook {
     pub orders: [Order; 128],
     pub count: usize,
@@ -312,7 +313,7 @@ pub struct OrderBook {
 }
 
 // What a call on the parts of a day comes to, besides positions and trade list.
-#[derive(Drop)]
+#[derive(Clone, Copy)]
 pub struct Carried {
     pub answer: Answer,
     pub phase: Phase,
@@ -320,7 +321,7 @@ pub struct Carried {
 }
 
 // An act on the records, with its arguments (T-06); each call of a trading day is an act too.
-#[derive(Drop)]
+#[derive(Clone, Copy)]
 pub enum Dealing {
     // Participant, offer, rate and term.
     Offer(u64, Ticket, u64, u64),
@@ -331,13 +332,13 @@ pub enum Dealing {
 }
 
 // What such an act comes to on the parts of a ledger.
-#[derive(Drop)]
+#[derive(Clone, Copy)]
 pub struct Dealt {
     pub carried: Carried,
     pub records: Records,
 }
 
-#[derive(Drop)]
+#[derive(Clone, Copy)]
 pub struct Outcome {
     pub answer: Answer,
     pub state: State,
