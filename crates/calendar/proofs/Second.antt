@@ -4,7 +4,6 @@ use native.Mathlib.Omega.{arith}
 use native.Mathlib.Nat.{mul-le-mul}
 use Rattle.market.specs.Limits.{max_first_sum, max_offer_rate, max_term}
 use Rattle.market.specs.Calendar.{day_count, long_year, second_sum, second_unit}
-use Rattle.market.specs.Needs.{nearest}
 use Rattle.market.proofs.Needs.{nearest_within}
 use Rattle.calendar.proofs.Days.{count_most}
 

@@ -1,4 +1,6 @@
 // Dates (T-06): the year of a day, what the days of a term count, and the sum of a second part.
+#![tactic(auto)]
+
 mod table;
 
 ghost use Rattle.std.specs.Prelude.{◌≡◌, ◌+◌, ◌<◌, ◌≤◌};

@@ -1,4 +1,6 @@
 // Codes given, of each participant, and the numbers of the next order. Counts past the participants are never read.
+#![tactic(auto)]
+
 ghost use Rattle.std.specs.Prelude.{◌≡◌, ◌+◌, ◌<◌, ◌≤◌, get_or};
 ghost use Rattle.market.specs.Limits.{max_codes, max_own_codes, max_participants};
 ghost use Rattle.market.proofs.Codes.{CodesWithin};

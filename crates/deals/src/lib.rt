@@ -1,4 +1,6 @@
 // Are the records sound: date, and open deals? Asked of any values at all, under sound rules.
+#![tactic(auto)]
+
 ghost use Rattle.std.specs.Prelude.{◌≡◌, true, ◌<◌, ◌≤◌};
 ghost use Rattle.market.specs.Limits.{max_lot, max_lots, max_nominal, max_price};
 ghost use Rattle.market.specs.Sound.{rules_sound};

@@ -1,4 +1,6 @@
 // The opening of a trading day: its arguments are asked, and an empty state is handed back.
+#![tactic(auto)]
+
 ghost use Rattle.std.specs.Prelude.{◌≡◌, ◌≤◌};
 ghost use Rattle.market.specs.Limits.{max_securities};
 ghost use Rattle.market.specs.Opening.{wrong_line};

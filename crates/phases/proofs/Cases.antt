@@ -8,7 +8,7 @@ use lib.Dec.{T}
 use lib.ListN.{drop, length, take}
 use borrow.Author.Tests.{eqb-false}
 use Rattle.market.specs.declared.Access.{Access}
-use Rattle.market.specs.declared.Access.TheVariants.{ClosingOrder, EndCollecting, EndSession, FillOrKill}
+use Rattle.market.specs.declared.Access.TheVariants.{ClosingOrder, EndCollecting, EndSession}
 use Rattle.market.specs.declared.Access.TheVariants.{Member, NewDay, Offer, StartClosing, StartCollecting}
 use Rattle.market.specs.declared.Answer.{Answer}
 use Rattle.market.specs.declared.Answer.TheVariants.{Refused}

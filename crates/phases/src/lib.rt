@@ -1,4 +1,6 @@
 // What the phase decides: which calls it admits, which orders may wait, and whether a kept order only waits.
+#![tactic(auto)]
+
 ghost use Rattle.std.specs.Prelude.{◌≡◌};
 ghost use Rattle.market.specs.Phases.{admits as admitsCall};
 ghost use Rattle.market.specs.Sound.{is_closing, is_collecting, is_open, kept_in};

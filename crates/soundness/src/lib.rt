@@ -1,4 +1,6 @@
 // Is a state sound? Asked of any values at all, before anything is reckoned from them.
+#![tactic(auto)]
+
 ghost use Rattle.std.specs.Prelude.{◌≡◌, true, ◌+◌, ◌<◌, ◌≤◌, get_or, replicate};
 ghost use Rattle.market.specs.Limits.{columns as allColumns, max_codes, max_own_codes, max_participants, max_securities, cells};
 ghost use Rattle.market.specs.Tests.{◌and◌, ◌≤?◌, all_below, known};

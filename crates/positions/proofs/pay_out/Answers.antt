@@ -1,0 +1,6 @@
+use mathlib.Core.Path.{refl}
+use Rattle.market.specs.Positions.{change}
+use Rattle.positions.proofs.pay_out.Goals as goal
+
+pub returns : goal.returns
+returns c = unfold change in refl
