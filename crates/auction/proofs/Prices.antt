@@ -2,27 +2,22 @@
 use Prim.Native.Nat.{ℕ, ◌<◌}
 use native.Mathlib.Omega.{arith}
 use mathlib.Core.Path.{◌≡◌, refl}
-use mathlib.Core.List.{[], ◌∷◌}
 use mathlib.Core.Bool.{Bool, true, false, cond}
-use types.Run.{OneOf, miss}
-use denote.Enum.Declared.{tag_of}
 use borrow.Author.Tests.{eq-eqb, eqb-true, ne_eqb}
 use Rattle.market.specs.declared.Kind.{Kind}
 use Rattle.market.specs.declared.Kind.TheVariants as kind
 use Rattle.market.specs.declared.Order.{Order}
 use Rattle.market.specs.declared.Side.{Side}
-use Rattle.market.specs.declared.Side.TheVariants.{Buy, Sell}
 use Rattle.market.specs.Tests.{◌=?◌, ◌and◌}
 use Rattle.market.specs.Matching.{fits, fitting_lots, opposite, price_of, reaches}
 use Rattle.market.specs.Pairing.{counterparty}
 use Rattle.market.specs.Auction.{price_on}
 use Rattle.market.specs.Needs.{is_kept, kept_price}
-use Rattle.market.specs.contracts.Kind.{the_type as kind-type}
 use Rattle.auction.specs.Ladder.{lots_for}
 
 -- any kind but the first is not kept, and has no price to meet others at
-pub not_kept : (k : Kind) → OneOf (1 ∷ 2 ∷ []) (tag_of kind-type k) → (is_kept k ≡ false) × (kept_price k ≡ 0)
-not_kept (kind.Kept p) h = absurd (miss (1 ∷ 2 ∷ []) 0 tt h)
+pub not_kept : (k : Kind) → ((p : ℕ) → k ≡ kind.Kept p → ⊥) → (is_kept k ≡ false) × (kept_price k ≡ 0)
+not_kept (kind.Kept p) h = absurd (h p refl)
 not_kept kind.Closing h = (refl, refl)
 not_kept (kind.Offer rate term p) h = (refl, refl)
 

@@ -1,4 +1,6 @@
 // The auction's price in a security: the written price at which most lots trade.
+#![tactic(auto)]
+
 ghost use Rattle.std.specs.Prelude.{◌≡◌, cond, ◌+◌, ◌-◌, length};
 ghost use Rattle.market.specs.Tests.{◌≤?◌};
 ghost use Rattle.market.specs.Auction.{auction_price};
@@ -15,7 +17,7 @@ const NUMBERS_PER_RUNG: usize = 3;
 const LADDER: usize = NUMBERS_PER_RUNG * MAX_WAITING as usize;
 
 // What an order comes to in a security: its price, and its lots on either side.
-#[derive(Drop)]
+#[derive(Clone, Copy)]
 struct Rung {
     price: u64,
     bought: u64,
@@ -23,7 +25,7 @@ struct Rung {
 }
 
 // What a price comes to: the lots that trade, and the gap between lots wanted and lots offered.
-#[derive(Drop)]
+#[derive(Clone, Copy)]
 struct Level {
     price: u64,
     volume: u64,

@@ -1,4 +1,6 @@
 // The one dispatch: a call is carried out on the parts of a sound day.
+#![tactic(auto)]
+
 ghost use Rattle.market.specs.Parts.{Carries, Ready, call_of};
 
 use linked::group;

@@ -1,5 +1,7 @@
 // The linked group: orders of kind A of one participant, each on what its predecessor left. All of them, or none. Order
 // book, positions and the first numbers of the trade list are saved once, and put back where a member is refused.
+#![tactic(auto)]
+
 ghost use Rattle.std.specs.Prelude.{◌≡◌, ◌++◌, ◌≤◌, drop, length, take};
 ghost use Rattle.market.specs.Limits.{lent_at_least};
 ghost use Rattle.market.specs.View.{day_of};

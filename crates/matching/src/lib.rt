@@ -1,5 +1,7 @@
 // Continuous trading: the best counter order, one trade, the fill. Positions and the trade list are lent, the order book
 // goes by value.
+#![tactic(auto)]
+
 ghost use Rattle.std.specs.Prelude.{◌≡◌, ◌+◌, ◌*◌, ◌-◌, ◌≤◌, ◌<◌, min, length};
 ghost use Rattle.market.specs.Limits.{numbers_per_trade};
 ghost use Rattle.market.specs.View.{first_orders};
@@ -24,7 +26,7 @@ pub const NUMBERS_PER_TRADE: usize = 8;
 const TOP: u64 = 18446744073709551615;
 
 // Index and price of the best counter order.
-#[derive(Drop)]
+#[derive(Clone, Copy)]
 pub enum Found {
     Nothing,
     At(usize, u64),

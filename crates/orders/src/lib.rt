@@ -1,5 +1,7 @@
 // Order entry of the three kinds, and cancellation. Questions are asked by functions that only read, so that a refusal copies nothing;
 // `enter` then moves lent positions and hands the order book on. `listing` and `turnover` are those of the order's security.
+#![tactic(auto)]
+
 ghost use Rattle.std.specs.Prelude.{◌≡◌, [], ◌≤◌};
 ghost use Rattle.market.specs.Limits.{max_lots, max_waiting};
 ghost use Rattle.market.specs.Waiting.{index_of};
@@ -25,7 +27,7 @@ use phases::{admits, is_collecting};
 use waiting::{append, block_need, covers, free_need, leave};
 
 // Where an order waits in the list, and its security.
-#[derive(Drop)]
+#[derive(Clone, Copy)]
 pub enum Found {
     Nothing,
     At(usize, u64),

@@ -1,5 +1,7 @@
 // What the sessions outside continuous trading share: the first buy with the first sell of a security, over and over, and
 // all waiting orders come off. Positions and the trade list are lent, the order book goes by value.
+#![tactic(auto)]
+
 ghost use Rattle.std.specs.Prelude.{◌≡◌, max, min};
 ghost use Rattle.market.specs.Pairing.{counterparty as stands_for};
 ghost use Rattle.matching.specs.Search.{best_of};

@@ -1,5 +1,7 @@
 // The sessions outside continuous trading, on parts: their starts, closing orders, their ends. Positions and the trade list are
 // lent, the order book goes by value.
+#![tactic(auto)]
+
 ghost use Rattle.std.specs.Prelude.{◌<◌, ◌≤◌, ◌≡◌, []};
 ghost use Rattle.market.specs.Limits.{max_lots, max_securities};
 ghost use Rattle.market.specs.Calls.{closing_order};
@@ -24,7 +26,7 @@ use phases::admits;
 use waiting::{append, covers};
 
 // Which orders meet, and at which price.
-#[derive(Drop)]
+#[derive(Clone, Copy)]
 struct Terms {
     limit: Kind,
     price: u64,

@@ -1,5 +1,7 @@
 // What several calls do with an order that waits or enters: its need is blocked or freed, it comes to wait, and it leaves. Positions are
 // lent, the order book goes by value; `listing` and `turnover` are those of the order's security.
+#![tactic(auto)]
+
 ghost use Rattle.std.specs.Prelude.{◌≡◌};
 ghost use Rattle.market.specs.Positions.{block as blocking, release as releasing};
 ghost use Rattle.waiting.specs.Appending.{Appendable, Appends};

@@ -11,77 +11,63 @@ use Rattle.orders.proofs.cancel.Tie as tie
 declined-requires : tie.Need-declined-requires
 declined-requires c κs = search rules
 
-returns : tie.Need-returns
+returns : tie.Need-returns-then-rules-participant
 returns c =
     let b = c.before.before.before in
     let a = b.args in
     rw c.declined.ensures
     (cancel_unknown a.rules a.phase a.money.now a.pieces.now a.b a.participant a.code b.requires
-    c.before.if1.true)
+    c.before.if-rules-participant.true)
 
-find-requires : tie.Need-find-requires
+find-requires : tie.Need-find-found-requires
 find-requires c κs =
     let b = c.before.before in
     let a = b.args in
     (few_lots a.rules a.phase a.money.now a.pieces.now a.b b.requires).room
 
-enum-known-found : tie.Need-enum-known-found
+enum-known-found : tie.Need-enum_known-found
 enum-known-found c = search rules
 
-enum_told : tie.Need-enum-told
+enum_told : tie.Need-enum_told-1
 enum_told c = search rules
 
-declined-requires-2 : tie.Need-declined-requires-2
+declined-requires-2 : tie.Need-declined-requires-in_default
 declined-requires-2 c κs = search rules
 
--- behind the search
-abbrev start : tie.After-find → tie.Start
-start c = c.before.before.before
-
-returns-2 : tie.Need-returns-2
+returns-2 : tie.Need-returns-in_default
 returns-2 c =
-    let f = c.before.before.before in
-    let b = start f in
-    let a = b.args in
-    rw c.declined2.ensures
-    (cancel_none a.rules a.phase a.money.now a.pieces.now a.b a.participant a.code b.pre
-    f.find.ensures.0 f.before.if1.false c.before.enum_told.given.1)
+    let a = c.args in
+    rw c.declined-in_default.ensures
+    (cancel_none a.rules a.phase a.money.now a.pieces.now a.b a.participant a.code c.requires
+    c.find-found.ensures.0 c.if-rules-participant.false c.in_default.is)
 
-known : (c : tie.After-known-told) → c.before.found.given.0.1.0 < max_securities
+known : (c : tie.In-At) → c.in-At.security < max_securities
 known c =
-    let f = c.before.before.before in
-    let b = start f in
-    let a = b.args in
-    found_known a.rules a.phase a.money.now a.pieces.now a.b a.participant a.code b.pre
-    f.find.ensures.0 f.find.ensures.1 c.before.found.given.1
+    let a = c.args in
+    found_known a.rules a.phase a.money.now a.pieces.now a.b a.participant a.code c.requires
+    c.find-found.ensures.0 c.find-found.ensures.1 c.in-At.is
 
-mul-row : tie.Need-overflow-mul-row
+mul-row : tie.Need-offset_bounds-table-security
 mul-row c = omega (arith, known c.before)
 
-array-copy-out-row : tie.Need-array-copy-out-row
+array-copy-out-row : tie.Need-bounds-table-security
 array-copy-out-row c = known c.before
 
-leave-requires : tie.Need-leave-requires
+leave-requires : tie.Need-leave-book-requires
 leave-requires c κs =
-    let k = c.before.before.before.before in
-    let f = k.before.before.before in
-    let b = start f in
-    let a = b.args in
-    found_leaves a.rules a.phase a.money.now a.pieces.now a.b a.participant a.code b.pre
-    f.find.ensures.0 f.find.ensures.1 k.before.found.given.1
+    let a = c.args in
+    found_leaves a.rules a.phase a.money.now a.pieces.now a.b a.participant a.code c.requires
+    c.find-found.ensures.0 c.find-found.ensures.1 c.in-At.is
 
-returns-3 : tie.Need-returns-3
+returns-3 : tie.Need-returns
 returns-3 c =
-    let k = c.before.before.before.before.before in
-    let f = k.before.before.before in
-    let b = start f in
-    let a = b.args in
-    cancel_carries a.rules a.phase a.money.now a.pieces.now a.b a.participant a.code b.pre
-    f.find.ensures.0 f.find.ensures.1 k.before.found.given.1 _ _ c.leave.result f.before.if1.false
-    c.leave.ensures
+    let a = c.args in
+    cancel_carries a.rules a.phase a.money.now a.pieces.now a.b a.participant a.code c.requires
+    c.find-found.ensures.0 c.find-found.ensures.1 c.in-At.is _ _ c.leave-book.result c.if-rules-participant.false
+    c.leave-book.ensures
 
-pub cancel-spec : {M : Type 1} → statement M
-cancel-spec =
+pub cancel_spec : {M : Type 1} → statement M
+cancel_spec =
     tie.close
     (tie.spec
     declined-requires
