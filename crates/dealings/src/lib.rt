@@ -1,5 +1,7 @@
 // The acts on deals (T-06): a repurchase offer, the second part of a deal, a new day; and their one dispatch. Questions are asked by
 // functions that only read; positions and the trade list are lent, order book and records go by value.
+#![tactic(auto)]
+
 ghost use Rattle.std.specs.Prelude.{◌≡◌, true, [], ◌∷◌, ◌<◌, ◌≤◌};
 ghost use Rattle.market.specs.declared.Answer.TheVariants.{Refused};
 ghost use Rattle.market.specs.Limits.{max_deals};
@@ -31,7 +33,7 @@ use positions::{draw, free_of, receive};
 use waiting::covers;
 
 // What the second part of a deal moves, between whom, and from which day on.
-#[derive(Drop)]
+#[derive(Clone, Copy)]
 pub struct Part {
     pub buyer: u64,
     pub seller: u64,

@@ -7,7 +7,6 @@ use mathlib.Core.List.{List, [], ◌∷◌}
 use mathlib.Core.Bool.{true, false}
 use Rattle.market.specs.declared.Answer.{Answer}
 use Rattle.market.specs.declared.Answer.TheVariants.{Done, Refused}
-use Rattle.market.specs.declared.Call as code
 use Rattle.market.specs.declared.Carried.{Carried}
 use Rattle.market.specs.declared.Dealt.{Dealt}
 use Rattle.market.specs.declared.OrderBook.{OrderBook}
@@ -16,17 +15,16 @@ use Rattle.market.specs.declared.Phase.{Phase}
 use Rattle.market.specs.declared.Records.{Records}
 use Rattle.market.specs.declared.Rules.{Rules}
 use Rattle.market.specs.declared.State.{State}
-use Rattle.market.specs.declared.Ticket.{Ticket}
 use Rattle.market.specs.Tests.{◌and◌}
 use Rattle.market.specs.Day.{Day}
 use Rattle.market.specs.Sound.{rules_sound, sound}
 use Rattle.market.specs.Answers.{is_done, numbers_of}
-use Rattle.market.specs.Calls.{Call, no_tickets}
+use Rattle.market.specs.Calls.{Call}
 use Rattle.market.specs.Parts.{Carries, book_of, rules_of}
 use Rattle.market.specs.Ledger.{around, first_deals, ledger_of, ledger_sound, records_sound, whole, with_day}
 use Rattle.market.specs.Acts.{Act, day}
 use Rattle.market.specs.ActStep.{ActReply}
-use Rattle.market.specs.LedgerParts.{CarriesAct, call_of}
+use Rattle.market.specs.LedgerParts.{CarriesAct}
 use Rattle.market.specs.Contract.{Does, HandedBack}
 use Rattle.market.proofs.Logic.{and_true}
 use Rattle.market.proofs.Acts.{act_unchanged, act_unsound, lifted}

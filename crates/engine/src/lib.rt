@@ -1,5 +1,7 @@
 // The public calls: the opening, and calls that ask first whether the state is sound (question 1), its records too.
 // None has a `requires`; a refusal hands back the very state given.
+#![tactic(auto)]
+
 ghost use Rattle.std.specs.Prelude.{◌≡◌, []};
 ghost use Rattle.market.specs.declared.Asset.TheVariants.{Money, Pieces};
 ghost use Rattle.market.specs.Calls.{no_tickets};

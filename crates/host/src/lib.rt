@@ -1,4 +1,6 @@
 // Document 01's thin form of order entry, for a host that keeps one state for the day.
+#![tactic(auto)]
+
 ghost use Rattle.market.specs.Acts.{order};
 ghost use Rattle.market.specs.Contract.{Does};
 
@@ -22,7 +24,7 @@ pub fn enter_order_in_place(
     out.answer
 }
 
-// The same with the state by value, for callers whose proofs are not by hand: whoever lends a state is proved by hand.
+// The same with the state by value.
 pub fn enter_order(
     s: State,
     participant: u64,

@@ -1,5 +1,7 @@
 // Repurchase offers on the trading day (T-06): which meets which, and what an accepted one does. Positions and the trade list are lent,
 // the order book goes by value; `listing` is that of the offer's security.
+#![tactic(auto)]
+
 ghost use Rattle.std.specs.Prelude.{◌≡◌, ◌≤◌};
 ghost use Rattle.market.specs.Limits.{max_waiting};
 ghost use Rattle.market.specs.Tests.{◌=?◌, ◌and◌};
