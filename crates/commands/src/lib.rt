@@ -1,5 +1,7 @@
 // The commands of a day file, carried out one after another on the parts of a sound day; what they print is put into a
 // lent buffer.
+#![tactic(auto)]
+
 ghost use Rattle.std.specs.Prelude.{◌≡◌, ◌++◌, ◌+◌, ◌≤◌, length};
 ghost use Rattle.market.specs.Limits.{lent_at_least, max_trades};
 ghost use Rattle.market.specs.Answers.{numbers_of};
@@ -38,7 +40,7 @@ pub const ROOM: usize = 32768;
 
 // What of a run changes from command to command besides positions: order book and phase, the place where the text goes
 // on and the number of its line there, and how much of the buffer is filled.
-#[derive(Drop)]
+#[derive(Clone, Copy)]
 pub struct Stand {
     pub book: OrderBook,
     pub phase: Phase,
@@ -48,7 +50,7 @@ pub struct Stand {
 }
 
 // What comes of a line where no waiting order has to be read.
-#[derive(Drop)]
+#[derive(Clone, Copy)]
 pub enum Asked {
     // Answered: a malformed line or one out of its place, a move of reserves, an order or a closing order refused by
     // questions 4 to 14, a cancellation refused by question 4.

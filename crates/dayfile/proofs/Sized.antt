@@ -1,4 +1,4 @@
--- The lengths of the arrays of a run's state, from what owning a Run tells (`c.good ..` of a parameter of that type).
+-- The lengths of the arrays of a run's state, from what owning a Run tells (`c.well_formed` of a parameter of that type, `type_inv` of a result).
 use denote.Laws.{Is}
 use denote.Struct.Laws.{tells, val}
 use mathlib.Core.Path.{subst}

@@ -1,5 +1,7 @@
 // A trading day from a day file: its commands are carried out one after another, and what they print is put into a lent
 // buffer.
+#![tactic(auto)]
+
 ghost use Rattle.std.specs.Prelude.{◌≡◌, true, false, ◌+◌, ◌≤◌, length};
 ghost use Rattle.market.specs.View.{view};
 ghost use Rattle.market.specs.Answers.{is_done};
@@ -22,7 +24,7 @@ pub const ROOM: usize = commands::ROOM;
 // A run of a day file: the state, the place where the text goes on and the number of its line there, how much of the
 // buffer is filled, and whether all is printed. Of the state its day alone is read: no line says a date or a deal, so its
 // records are the opening's to the end.
-#[derive(Drop)]
+#[derive(Clone, Copy)]
 pub struct Run {
     pub state: State,
     pub at: usize,

@@ -1,5 +1,7 @@
 // A library for hosts in other languages: a day's text goes in, what it prints comes out. Numbers and bytes alone cross
 // the boundary, since an exported function takes no enum and nothing that holds one.
+#![tactic(auto)]
+
 mod checked;
 
 ghost use Rattle.dayfile.specs.Run.{Prints};

@@ -3,10 +3,9 @@ use Prim.Native.Nat.{ℕ, zero, suc, ◌+◌, ◌≤◌, ◌<◌}
 use native.Mathlib.Numerals.{add-one}
 use native.Mathlib.Omega.{arith}
 use mathlib.Core.Path.{◌≡◌, refl, ap, sym, subst, ◌∙◌}
-use mathlib.Core.List.{List, []}
+use mathlib.Core.List.{List}
 use mathlib.Core.Bool.{Bool, true, false, cond}
 use lib.ListN.{drop}
-use types.Run.{miss}
 use Rattle.market.specs.declared.Outcome.{Outcome}
 use Rattle.market.specs.declared.Rules.{Rules}
 use Rattle.market.specs.Limits.{max_securities}
@@ -30,7 +29,6 @@ use Rattle.lines.specs.declared.Line.{Line}
 use Rattle.lines.specs.declared.Line.TheVariants as line
 use Rattle.reading.specs.declared.Reading.{Reading}
 use Rattle.reading.specs.Commands.{Reads}
-use Rattle.reading.proofs.Tags.{OtherLine, other_lines}
 use Rattle.heading.specs.declared.Headed as code
 use Rattle.heading.specs.declared.Securities.{Securities}
 use Rattle.heading.specs.Heading.{Headed, ReadsAs, ReadsHeading, ReadsLines, ReadsSecurities, WrongHeading}
@@ -84,13 +82,10 @@ opening_sound r done =
     let h = accepted r done in
     subst (λ (d : Day). sound d ≡ true) (sym h.day) (good_sound empty_book (opened r) (opened_good r h.rules))
 
-abbrev heading_tag : ℕ
-heading_tag = 1
-
 -- a first line that is no heading
-no_heading : (says : Line) (t : List ℕ) → OtherLine heading_tag says → headed_by says t ≡ fault 1
+no_heading : (says : Line) (t : List ℕ) → ((p c s : ℕ) → says ≡ line.Heading p c s → ⊥) → headed_by says t ≡ fault 1
 no_heading (line.Call c) t h = refl
-no_heading (line.Heading p c s) t h = absurd (miss (other_lines heading_tag) heading_tag tt h)
+no_heading (line.Heading p c s) t h = absurd (h p c s refl)
 no_heading (line.Security a b c) t h = refl
 no_heading (line.Member m) t h = refl
 no_heading line.Malformed t h = refl
@@ -116,7 +111,7 @@ module _ {text : List ℕ} {first : Reading} (reads : Reads text 0 first) where
   unfolding heading
   heading_reads = rw (reads.says, reads.rest)
 
-  pub heading_other : {r : code.Headed} → OtherLine heading_tag first.says → WrongHeading 1 r → ReadsHeading text r
+  pub heading_other : {r : code.Headed} → ((p c s : ℕ) → first.says ≡ line.Heading p c s → ⊥) → WrongHeading 1 r → ReadsHeading text r
   heading_other other w = reads_fault (heading_reads ∙ no_heading first.says _ other) w
 
   -- an `H` line, and what its `S` lines come to

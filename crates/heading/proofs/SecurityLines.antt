@@ -5,26 +5,21 @@ use native.Mathlib.Omega.{arith}
 use mathlib.Core.Path.{◌≡◌, refl, ap, sym, ◌∙◌}
 use mathlib.Core.List.{List, [], ◌∷◌}
 use lib.ListN.{drop, length, set, drop_of_length-le, length-drop, length-set}
-use types.Run.{miss}
 use Rattle.market.specs.declared.Security.{Security}
 use Rattle.market.specs.Limits.{max_securities}
 use Rattle.lines.specs.declared.Line.{Line}
 use Rattle.lines.specs.declared.Line.TheVariants as line
 use Rattle.reading.specs.declared.Reading.{Reading}
 use Rattle.reading.specs.Commands.{Reads, yield}
-use Rattle.reading.proofs.Tags.{OtherLine, other_lines}
 use Rattle.heading.specs.Heading.{Lines, ReadsSecurities, lines_in, max_text, no_table, securities_from}
 use Rattle.heading.specs.Heading.{security_by, wrong}
 
-abbrev security_tag : ℕ
-security_tag = 2
-
 -- a line that is no security's
 no_security_lem : (says : Line) (n : ℕ) (next : Security → Lines)
-    → OtherLine security_tag says → security_by says n next ≡ wrong n
+    → ((currency lot step : ℕ) → says ≡ line.Security currency lot step → ⊥) → security_by says n next ≡ wrong n
 no_security_lem (line.Call c) n next h = refl
 no_security_lem (line.Heading a b c) n next h = refl
-no_security_lem (line.Security a b c) n next h = absurd (miss (other_lines security_tag) security_tag tt h)
+no_security_lem (line.Security a b c) n next h = absurd (h a b c refl)
 no_security_lem (line.Member m) n next h = refl
 no_security_lem line.Malformed n next h = refl
 
@@ -107,7 +102,7 @@ module _ {text : List ℕ} {from n : ℕ} {table : List Security} {at i : ℕ} (
           rw (reads.says, reads.rest)
           (securities_line (n - suc i) i table (drop at text) (simp length-drop (omega arith)))
 
-      pub passed_wrong : OtherLine security_tag r.says
+      pub passed_wrong : ((currency lot step : ℕ) → r.says ≡ line.Security currency lot step → ⊥)
           → ReadsSecurities text from n (record { fault = i + 2; table = table; next = at })
       passed_wrong other = fault_here (line_here ∙ no_security_lem r.says (i + 2) _ other)
 

@@ -1,4 +1,6 @@
 // The heading of a day file: an `H` line and as many `S` lines as it says are read, and the day is opened with them.
+#![tactic(auto)]
+
 ghost use Rattle.std.specs.Prelude.{◌≡◌, ◌≤◌, length};
 ghost use Rattle.market.specs.Answers.{numbers_of};
 ghost use Rattle.heading.specs.Heading.{ReadsHeading, ReadsLines, ReadsSecurities, WrongHeading, max_text};
@@ -12,7 +14,7 @@ use reading::command_at;
 pub const MALFORMED: u64 = 19;
 
 // The `S` lines of a heading: the line of the first fault or 0, and the place where the text goes on.
-#[derive(Drop)]
+#[derive(Clone, Copy)]
 pub struct Securities {
     pub fault: u64,
     pub table: [Security; 16],
@@ -20,7 +22,7 @@ pub struct Securities {
 }
 
 // A heading: its answer and the line that it stands on, and the line and place where the text goes on.
-#[derive(Drop)]
+#[derive(Clone, Copy)]
 pub struct Headed {
     pub outcome: Outcome,
     pub line: u64,

@@ -10,7 +10,7 @@ use lib.ListN.{get_or-eq_default, drop, drop_of_length-le, get_or, length, set}
 use lib.Seq.{drop-cons, drop-drop, get_or-drop}
 use lib.Dec.{ltb}
 use borrow.Author.Tests.{ltb-false, ltb-true, ne_eqb, not-true}
-use Rattle.bytes.specs.Bytes.{index_of, slice}
+use Rattle.lines.specs.Finding.{index_of, slice}
 use Rattle.market.specs.Tests.{all_of}
 use Rattle.market.proofs.Logic.{and_true}
 use Rattle.lines.specs.declared.Part.{Part}

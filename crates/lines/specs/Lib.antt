@@ -1,3 +1,4 @@
 pub mod Text
+pub mod Finding
 pub mod Forms
 pub mod Line

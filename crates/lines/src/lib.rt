@@ -1,7 +1,10 @@
 // What a line of a day file says.
-ghost use Rattle.std.specs.Prelude.{◌≡◌, ◌<◌, drop, get_or, length, replicate};
+#![tactic(auto)]
+
+ghost use Rattle.std.specs.Prelude.{◌≡◌, ◌+◌, ◌<◌, ◌≤◌, drop, get_or, length, replicate};
 ghost use Rattle.market.specs.declared.Call.TheVariants as call;
 ghost use Rattle.lines.specs.declared.Part.TheVariants.{Force, Nothing, Number, Side as SideLetter};
+ghost use Rattle.lines.specs.Finding.{index_of, slice};
 ghost use Rattle.lines.specs.Forms.{at, force_of, is_nothing, row_of, side_of};
 ghost use Rattle.lines.specs.Line.{line_says, no_values, value, values_from, values_in};
 
@@ -12,7 +15,7 @@ const COMMA: u8 = b',';
 const MAX_DIGITS: usize = 16;
 
 // What a line says. Document 01's letters R, W, D, E, B and L, X, G, C, P, Z are calls; the others are H, S and M.
-#[derive(Drop)]
+#[derive(Clone, Copy)]
 pub enum Line {
     Call(Call),
     Heading(u64, u64, u64),
@@ -22,7 +25,7 @@ pub enum Line {
 }
 
 // What a field of a line holds; past the last field nothing.
-#[derive(Drop)]
+#[derive(Clone, Copy)]
 pub enum Part {
     Number,
     Side,
@@ -30,17 +33,32 @@ pub enum Part {
     Nothing,
 }
 
-#[derive(Drop)]
+#[derive(Clone, Copy)]
 pub enum Value {
     Good(u64),
     Wrong,
 }
 
 // The values of a line's fields, where its form is kept.
-#[derive(Drop)]
+#[derive(Clone, Copy)]
 struct Values {
     good: bool,
     list: [u64; 5],
+}
+
+// The first place of the byte in from..to, or `to`.
+pub fn find(text: &[u8], from: usize, to: usize, wanted: u8) -> usize
+    requires from_le_to { from ≤ to }
+    requires to_in_bounds { to ≤ length text.now }
+    ensures first { result ≡ from + index_of wanted (slice from to text.now) }
+    ensures within { result ≤ to }
+{
+    for i in from..to {
+        if text[i] == wanted {
+            return i;
+        }
+    }
+    to
 }
 
 // 1 to 16 decimal digits without leading zeros.
@@ -166,7 +184,7 @@ fn field_values(line: &[u8]) -> Values
             return Values { good: false, list };
         }
         let start = at + 1;
-        let end = bytes::scan::find(line, start, line.len(), COMMA);
+        let end = find(line, start, line.len(), COMMA);
         let value = field_value(part_of(letter, i), &line[start..end]);
         let Value::Good(v) = value else {
             return Values { good: false, list };

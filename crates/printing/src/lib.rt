@@ -1,4 +1,6 @@
 // The lines that the day file program prints, put one after another into a lent buffer.
+#![tactic(auto)]
+
 ghost use Rattle.std.specs.Prelude.{◌≡◌, [], ◌∷◌, ◌+◌, ◌*◌, ◌≤◌, ◌<◌, length};
 ghost use Rattle.market.specs.Limits.{columns as maxColumns, max_currencies, max_participants, max_securities};
 ghost use Rattle.market.specs.Limits.{numbers_per_trade};

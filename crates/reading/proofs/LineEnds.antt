@@ -5,7 +5,7 @@ use native.Mathlib.Omega.{arith}
 use mathlib.Core.Path.{◌≡◌, refl, ap, sym, ◌∙◌}
 use mathlib.Core.List.{List, [], ◌∷◌}
 use lib.ListN.{drop, drop_of_length-le, length}
-use Rattle.bytes.specs.Bytes.{index_of, slice}
+use Rattle.lines.specs.Finding.{index_of, slice}
 use Rattle.lines.specs.declared.Line.{Line}
 use Rattle.lines.specs.Line.{line_says}
 use Rattle.lines.proofs.Finding.{between, found_field, found_rest}

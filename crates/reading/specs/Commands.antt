@@ -1,8 +1,7 @@
 -- What the reader yields: one command after another.
-use Rattle.std.specs.Prelude.{ℕ, zero, suc, ◌<◌, ◌≤◌, ◌≡◌, List, [], ◌∷◌, Bool, true, false, drop, length, replicate, set}
+use Rattle.std.specs.Prelude.{ℕ, zero, suc, ◌<◌, ◌≤◌, ◌≡◌, List, [], ◌∷◌, Bool, true, false, drop, length, set}
 use Rattle.market.specs.declared.Call.{Call}
 use Rattle.market.specs.declared.Call.TheVariants as call
-use Rattle.market.specs.declared.Side.TheVariants.{Buy}
 use Rattle.market.specs.declared.Ticket.{Ticket}
 use Rattle.market.specs.Limits.{max_members, min_members}
 use Rattle.market.specs.Calls.{no_tickets}

@@ -1,4 +1,6 @@
 // A reader of a day file: it yields one command after another.
+#![tactic(auto)]
+
 ghost use Rattle.std.specs.Prelude.{◌≡◌, ◌≤◌, drop, length};
 ghost use Rattle.market.specs.declared.Call.TheVariants as call;
 ghost use Rattle.market.specs.Limits.{max_members};
@@ -12,7 +14,7 @@ use market::{Call, MAX_MEMBERS, MIN_MEMBERS, Side, Ticket};
 const LINE_END: u8 = b'\n';
 
 // What a first line says, the members of a group, how many lines were taken, and where the text goes on after them.
-#[derive(Drop)]
+#[derive(Clone, Copy)]
 pub struct Reading {
     pub says: Line,
     pub members: [Ticket; 8],
@@ -21,14 +23,14 @@ pub struct Reading {
 }
 
 // A line, and where the text goes on after it.
-#[derive(Drop)]
+#[derive(Clone, Copy)]
 pub struct LineAt {
     pub says: Line,
     pub next: usize,
 }
 
 // A group's members in their places, where all their lines are there.
-#[derive(Drop)]
+#[derive(Clone, Copy)]
 pub struct Members {
     pub good: bool,
     pub list: [Ticket; 8],
@@ -39,7 +41,7 @@ fn line_at(text: &[u8], at: usize) -> LineAt
     requires { at ≤ length text.now }
     ensures { ReadsLine text.now at result.says result.next }
 {
-    let end = bytes::scan::find(text, at, text.len(), LINE_END);
+    let end = lines::find(text, at, text.len(), LINE_END);
     let says = line_says(&text[at..end]);
     let next = if end < text.len() { end + 1 } else { end };
     LineAt { says, next }
@@ -146,14 +148,14 @@ fn reading_at(text: &[u8], at: usize) -> Reading
 }
 
 // A line reader over a lent text, at a place of it.
-#[derive(Drop)]
+#[derive(Clone, Copy)]
 pub struct Reader<'a> {
     pub text: &'a [u8],
     pub at: usize,
 }
 
 // A command, and the reader that stands after it.
-#[derive(Drop)]
+#[derive(Clone, Copy)]
 pub struct Yielded<'a> {
     pub reading: Reading,
     pub reader: Reader<'a>,

@@ -1,0 +1,13 @@
+-- `heading::wrong_heading` meets its contract: the day of a refused opening's ledger is one of zeros.
+use mathlib.Core.Path.{refl, ap}
+use Rattle.market.specs.Ledger.{Ledger}
+use Rattle.market.specs.ActStep.{opened_ledger}
+use Rattle.heading.proofs.wrong_heading.Goals as goal
+
+pub returns : goal.returns
+unfolding opened_ledger
+returns c = record {
+  line = refl;
+  answer = c.refused_opening.ensures.answer;
+  day = ap (λ (l : Ledger). l.day) c.refused_opening.ensures.state;
+}
