@@ -1,8 +1,10 @@
 // A script: a text that drives every call of a trading day. Its lines are those of a day file and a few words besides, and
 // its heading may say more; heading and commands go through the public calls. What it prints is put into a lent buffer, part
 // by part.
+#![tactic(auto)]
+
 mod ending;
-mod opening;
+mod head_lines;
 mod records;
 mod words;
 
@@ -13,10 +15,10 @@ ghost use Rattle.script.specs.Playing.{Advances, Follows, Plays, Stands, Starts,
 
 use dayfile::{MAX_TEXT, begin, is_done};
 use ending::put_end;
+use head_lines::heading_of;
 use heading::MALFORMED;
 use lines::Line;
 use market::{Answer, Call, Dealing, LENT_AT_LEAST, MAX_MEMBERS, MIN_MEMBERS, State};
-use opening::heading_of;
 use printing::{put_answer, put_trades};
 use reading::{Reading, command_at};
 use words::{Word, word_at};
@@ -33,7 +35,7 @@ pub const ROOM: usize = 81920;
 
 // How far a script is played: the state, the place where the text goes on and the number of its line there, how much of
 // the buffer is filled, how many numbers are lent, and whether all is printed.
-#[derive(Drop)]
+#[derive(Clone, Copy)]
 pub struct Play {
     pub state: State,
     pub at: usize,
@@ -243,8 +245,7 @@ pub fn resume(text: &[u8], from: Play, out: &mut [u8]) -> Play
 
 // The whole script in one buffer, for hosts in other languages: how many bytes are printed, or 0 where the buffer has no
 // room for them.
-#[unsafe(no_mangle)]
-pub extern "C" fn run_script(text: &[u8], out: &mut [u8]) -> usize {
+pub fn run_script(text: &[u8], out: &mut [u8]) -> usize {
     if out.len() < ROOM {
         return 0;
     }

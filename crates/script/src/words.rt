@@ -8,7 +8,7 @@ const COMMA: u8 = b',';
 
 pub const LINE_END: u8 = b'\n';
 
-#[derive(Drop)]
+#[derive(Clone, Copy)]
 pub enum Word {
     // From here on so many numbers are lent.
     Lend(u64),
@@ -40,7 +40,7 @@ fn is_same(a: &[u8], b: &[u8]) -> bool {
 const MAX_NUMBERS: usize = 5;
 
 // The numbers of a line, each behind a comma, and how many there are; 0 in the places after them.
-#[derive(Drop)]
+#[derive(Clone, Copy)]
 pub struct Numbers {
     pub count: usize,
     pub list: [u64; 5],
@@ -65,7 +65,7 @@ pub fn numbers_from(line: &[u8], from: usize) -> Numbers
             return none;
         }
         let start = at + 1;
-        let end = bytes::scan::find(line, start, line.len(), COMMA);
+        let end = lines::find(line, start, line.len(), COMMA);
         let Value::Good(v) = number(&line[start..end]) else {
             return none;
         };
@@ -105,7 +105,7 @@ fn offer_word(line: &[u8], end: usize) -> Word
         return Word::Other;
     }
     let start = end + 1;
-    let at = bytes::scan::find(line, start, line.len(), COMMA);
+    let at = lines::find(line, start, line.len(), COMMA);
     let Value::Good(participant) = number(&line[start..at]) else {
         return Word::Other;
     };
@@ -145,7 +145,7 @@ fn word_of(line: &[u8]) -> Word {
     if is_same(line, b"AUCTION") {
         return Word::Call(Call::End(Session::Collecting));
     }
-    let end = bytes::scan::find(line, 0, line.len(), COMMA);
+    let end = lines::find(line, 0, line.len(), COMMA);
     if is_same(&line[..end], b"OFFER") {
         return offer_word(line, end);
     }
@@ -159,6 +159,6 @@ fn word_of(line: &[u8]) -> Word {
 pub fn word_at(text: &[u8], at: usize) -> Word
     requires { at < length text.now }
 {
-    let end = bytes::scan::find(text, at, text.len(), LINE_END);
+    let end = lines::find(text, at, text.len(), LINE_END);
     word_of(&text[at..end])
 }
