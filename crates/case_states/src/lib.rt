@@ -1,111 +1,114 @@
 // What state_cases and deal_cases share: states made by hand, orders entered into them, and the printing of a case's line.
+#![tactic(auto)]
+
 use engine::{increase_money, increase_pieces, opening};
 use host::enter_order;
-use libc::STDOUT_FILENO;
 use market::{
     Answer, Deal, Kind, Order, Outcome, Phase, Records, Security, Side, State, Ticket, TimeInForce,
     Turnover, book_of, state_of,
 };
 
 // Printing: a label, then an answer, a position, the counts of codes or eight numbers of the trade list.
-fn text(bytes: &[u8]) {
-    io::write_all(STDOUT_FILENO, bytes);
+fn text(rt: &impl Print, bytes: &[u8]) {
+    let _ = rt.write_all(bytes);
 }
 
-fn number(x: u64) {
-    text(b",");
-    io::print_decimal(STDOUT_FILENO, x);
+fn number(rt: &impl Print, x: u64) {
+    text(rt, b",");
+    let _ = rt.print(x);
 }
 
-fn four(a: u64, b: u64, c: u64, d: u64) {
-    number(a);
-    number(b);
-    number(c);
-    number(d);
+fn four(rt: &impl Print, a: u64, b: u64, c: u64, d: u64) {
+    number(rt, a);
+    number(rt, b);
+    number(rt, c);
+    number(rt, d);
 }
 
-fn refusal(label: &[u8], number_of: u64, place: u64) {
-    text(label);
-    number(number_of);
-    number(place);
-    text(b",0,0,0,0\n");
+fn refusal(rt: &impl Print, label: &[u8], number_of: u64, place: u64) {
+    text(rt, label);
+    number(rt, number_of);
+    number(rt, place);
+    text(rt, b",0,0,0,0\n");
 }
 
-fn done(label: &[u8], code: u64, filled: u64, left: u64, trades: u64) {
-    text(label);
-    text(b",0,0");
-    four(code, filled, left, trades);
-    text(b"\n");
+fn done(rt: &impl Print, label: &[u8], code: u64, filled: u64, left: u64, trades: u64) {
+    text(rt, label);
+    text(rt, b",0,0");
+    four(rt, code, filled, left, trades);
+    text(rt, b"\n");
 }
 
 // An answer as the day file prints it: refusal, place, code, filled, left, trades.
-fn answer(label: &[u8], a: Answer) {
+fn answer(rt: &impl Print, label: &[u8], a: Answer) {
     match a {
-        Answer::Refused(number_of, place) => refusal(label, number_of, place),
-        Answer::Done(code, filled, left, trades) => done(label, code, filled, left, trades),
+        Answer::Refused(number_of, place) => refusal(rt, label, number_of, place),
+        Answer::Done(code, filled, left, trades) => done(rt, label, code, filled, left, trades),
     }
 }
 
 // Prints the answer and goes on with the state.
-pub fn after(label: &[u8], o: Outcome) -> State {
+pub fn after(rt: &impl Print, label: &[u8], o: Outcome) -> State {
     let a = o.answer;
-    answer(label, a);
+    answer(rt, label, a);
     o.state
 }
 
-pub fn position(label: &[u8], free: u64, blocked: u64) {
-    text(label);
-    number(free);
-    number(blocked);
-    text(b"\n");
+pub fn position(rt: &impl Print, label: &[u8], free: u64, blocked: u64) {
+    text(rt, label);
+    number(rt, free);
+    number(rt, blocked);
+    text(rt, b"\n");
 }
 
 // Free and blocked money at participant * 16 + currency.
-pub fn money(label: &[u8], s: State, place: usize) {
+pub fn money(rt: &impl Print, label: &[u8], s: State, place: usize) {
     if place < 272 {
-        position(label, s.money[2 * place], s.money[2 * place + 1]);
+        position(rt, label, s.money[2 * place], s.money[2 * place + 1]);
     }
 }
 
 // Codes given, at each of the 16 places.
-pub fn counts(label: &[u8], s: State) {
+pub fn counts(rt: &impl Print, label: &[u8], s: State) {
     let codes = s.codes;
-    text(label);
-    four(codes[0], codes[1], codes[2], codes[3]);
-    four(codes[4], codes[5], codes[6], codes[7]);
-    four(codes[8], codes[9], codes[10], codes[11]);
-    four(codes[12], codes[13], codes[14], codes[15]);
-    text(b"\n");
+    text(rt, label);
+    four(rt, codes[0], codes[1], codes[2], codes[3]);
+    four(rt, codes[4], codes[5], codes[6], codes[7]);
+    four(rt, codes[8], codes[9], codes[10], codes[11]);
+    four(rt, codes[12], codes[13], codes[14], codes[15]);
+    text(rt, b"\n");
 }
 
 // Code and arrival of the order that waits longest; no call shows an arrival.
-pub fn code_and_arrival(label: &[u8], s: State) {
+pub fn code_and_arrival(rt: &impl Print, label: &[u8], s: State) {
     let o = s.orders[0];
-    position(label, o.code, o.arrival as u64);
+    position(rt, label, o.code, o.arrival as u64);
 }
 
 // Eight numbers of the trade list from `first` on, as many as one trade takes.
-pub fn numbers(label: &[u8], trades: &[u64], first: usize) {
+pub fn numbers(rt: &impl Print, label: &[u8], trades: &[u64], first: usize) {
     if trades.len() < 8 {
         return;
     }
     if trades.len() - 8 < first {
         return;
     }
-    text(label);
+    text(rt, label);
     four(
+        rt,
         trades[first],
         trades[first + 1],
         trades[first + 2],
         trades[first + 3],
     );
     four(
+        rt,
         trades[first + 4],
         trades[first + 5],
         trades[first + 6],
         trades[first + 7],
     );
-    text(b"\n");
+    text(rt, b"\n");
 }
 
 // The day that all cases start from: two participants, currencies and securities; lot 10, step 5.
@@ -212,8 +215,8 @@ pub fn with_unread() -> State {
 }
 
 // Question 1, of a state made by hand.
-pub fn asked(label: &[u8], s: State) {
-    after(label, increase_money(s, 0, 0, 1));
+pub fn asked(rt: &impl Print, label: &[u8], s: State) {
+    after(rt, label, increase_money(s, 0, 0, 1));
 }
 
 // A security of currency 0, lot 10 and step 5 with this nominal.
@@ -253,8 +256,8 @@ pub fn waiting(o: Order) -> State {
     s
 }
 
-pub fn asked_kind(label: &[u8], kind: Kind) {
-    asked(label, waiting(sell_order(3, 1, 0, 10, kind)));
+pub fn asked_kind(rt: &impl Print, label: &[u8], kind: Kind) {
+    asked(rt, label, waiting(sell_order(3, 1, 0, 10, kind)));
 }
 
 // The same order in a phase, with this Q and T of its security.
@@ -264,12 +267,12 @@ pub fn in_phase(phase: Phase, kind: Kind, pieces: u64, value: u64) -> State {
     s
 }
 
-pub fn asked_closing(label: &[u8], kind: Kind, pieces: u64, value: u64) {
-    asked(label, in_phase(Phase::Closing, kind, pieces, value));
+pub fn asked_closing(rt: &impl Print, label: &[u8], kind: Kind, pieces: u64, value: u64) {
+    asked(rt, label, in_phase(Phase::Closing, kind, pieces, value));
 }
 
-pub fn asked_collecting(label: &[u8], kind: Kind, pieces: u64, value: u64) {
-    asked(label, in_phase(Phase::Collecting, kind, pieces, value));
+pub fn asked_collecting(rt: &impl Print, label: &[u8], kind: Kind, pieces: u64, value: u64) {
+    asked(rt, label, in_phase(Phase::Collecting, kind, pieces, value));
 }
 
 // 5 lots of each participant wait at 95 on this side. Participant 0 has money and pieces free, too.
@@ -358,12 +361,19 @@ pub fn kept(s: State, participant: u64, t: Ticket) -> State {
     o.state
 }
 
-pub fn bought(label: &[u8], s: State) {
-    after(label, order(s, 0, buy(0, 5, 1)));
+pub fn bought(rt: &impl Print, label: &[u8], s: State) {
+    after(rt, label, order(s, 0, buy(0, 5, 1)));
 }
 
 // An order lent a list of sevens: its first trade and the 8 numbers behind it.
-pub fn traded(label: &[u8], s: State, participant: u64, t: Ticket, force: TimeInForce) -> State {
+pub fn traded(
+    rt: &impl Print,
+    label: &[u8],
+    s: State,
+    participant: u64,
+    t: Ticket,
+    force: TimeInForce,
+) -> State {
     let mut trades = [7u64; 1088];
     let side = t.side;
     let o = enter_order(
@@ -376,8 +386,8 @@ pub fn traded(label: &[u8], s: State, participant: u64, t: Ticket, force: TimeIn
         force,
         &mut trades,
     );
-    let s = after(label, o);
-    numbers(label, &trades, 0);
-    numbers(b"the next 8 numbers", &trades, 8);
+    let s = after(rt, label, o);
+    numbers(rt, label, &trades, 0);
+    numbers(rt, b"the next 8 numbers", &trades, 8);
     s
 }

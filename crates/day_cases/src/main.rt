@@ -1,46 +1,49 @@
 // Runs the day files that its arguments name, one after another: a line with the name, then what the day prints.
-use console::print_day;
-use streams::{Input, read_whole, write_first};
+#![tactic(auto)]
 
-fn print_name(name: &[u8]) -> bool {
-    if !write_first(b"# ", 2) {
+use console::print_day;
+use std::io::Stdout;
+use std::{env, fs};
+use streams::{Input, fail, read_whole, write_first};
+
+fn print_name(rt: &HostRuntime, out: &mut Stdout, name: &[u8]) -> bool {
+    if !write_first(rt, out, b"# ", 2) {
         return false;
     }
-    if !write_first(name, name.len()) {
+    if !write_first(rt, out, name, name.len()) {
         return false;
     }
-    write_first(b"\n", 1)
+    write_first(rt, out, b"\n", 1)
 }
 
 // Whether the file could be read and all of its day went through.
-fn run_file(name: &[u8]) -> bool {
-    if !print_name(name) {
+fn run_file(rt: &HostRuntime, out: &mut Stdout, name: &str) -> bool {
+    if !print_name(rt, out, name.as_bytes()) {
         return false;
     }
-    let file = os::open_read(name);
-    if file < 0 {
-        os::fail(name);
-        return false;
-    }
+    let mut file = match fs::open(rt, name) {
+        Ok(file) => file,
+        Err(error) => {
+            fail(rt, name, &error);
+            return false;
+        }
+    };
     let mut text = [0u8; 65537];
-    let read = read_whole(file, name, &mut text);
-    libc::close(file);
-    let Input::Read(n) = read else {
+    let Input::Read(n) = read_whole(rt, &mut file, name, &mut text) else {
         return false;
     };
-    print_day(&text[..n])
+    print_day(rt, out, &text[..n])
 }
 
-fn run_argument(i: usize) -> bool {
-    let mut name = [0u8; 256];
-    let n = os::arg(i, &mut name);
-    run_file(&name[..n])
-}
-
-fn main() {
-    for i in 1..os::arg_count() {
-        if !run_argument(i) {
-            break;
+fn main(rt: HostRuntime) {
+    match env::args(&rt) {
+        Ok(names) => {
+            for name in names.skip(1) {
+                if !run_file(&rt, &mut rt.stdout(), name.as_str()) {
+                    break;
+                }
+            }
         }
+        Err(error) => fail(&rt, "arguments", &error),
     }
 }

@@ -1,27 +1,36 @@
-// A script printed to standard output, part by part, whatever its length.
+// A script printed to standard output, or another writer, part by part, whatever its length.
+#![tactic(auto)]
+
 ghost use Rattle.std.specs.Prelude.{◌≤◌, length};
 ghost use Rattle.script.specs.Rooms.{room};
 
 use script::{resume, start};
+use std::io::Write;
+use std::rt::Clock;
 use streams::write_first;
 
 // The buffer takes part after part; each is written before the next. After a part that did not go through nothing is written.
-fn print_parts(text: &[u8], out: &mut [u8]) -> bool
+fn print_parts<R: Clock + Eprint, W: Write>(
+    rt: &R,
+    file: &mut W,
+    text: &[u8],
+    out: &mut [u8],
+) -> bool
     requires { room ≤ length out.old }
 {
     let mut p = start(text, out);
     while !p.over {
-        if !write_first(out, p.filled) {
+        if !write_first(rt, file, out, p.filled) {
             return false;
         }
         p.filled = 0;
         p = resume(text, p, out);
     }
-    write_first(out, p.filled)
+    write_first(rt, file, out, p.filled)
 }
 
 // Whether all of the script went through.
-pub fn print_script(text: &[u8]) -> bool {
+pub fn print_script<R: Clock + Eprint, W: Write>(rt: &R, file: &mut W, text: &[u8]) -> bool {
     let mut out = [0u8; 131072];
-    print_parts(text, &mut out)
+    print_parts(rt, file, text, &mut out)
 }

@@ -19,7 +19,7 @@ fn read_back(o: Order, lots: u64) -> u64
     lots_of(with_lots(o, lots))
 }
 
-fn all_lots() {
+fn all_lots(rt: &impl Print) {
     let o = sell_order(3, 1, 0, 10, Kind::Kept(95));
     let mut same: u64 = 0;
     let mut lots: u64 = 0;
@@ -29,35 +29,35 @@ fn all_lots() {
         }
         lots += 1;
     }
-    position(b"lots from 0 on that read back", same, lots);
+    position(rt, b"lots from 0 on that read back", same, lots);
 }
 
-fn waiting_lots() {
+fn waiting_lots(rt: &impl Print) {
     let o = arrived(sell_order(3, 1, 0, 10000, Kind::Kept(95)), 3);
     let s = with_pieces(waiting(o), 16, 0, 100000);
-    asked(b"10000 lots wait, sound", s);
-    let s = after(b"they are cancelled", cancel(s, 1, 3));
-    position(b"their pieces", s.pieces[32], s.pieces[33]);
+    asked(rt, b"10000 lots wait, sound", s);
+    let s = after(rt, b"they are cancelled", cancel(s, 1, 3));
+    position(rt, b"their pieces", s.pieces[32], s.pieces[33]);
     let o = arrived(sell_order(3, 1, 0, 65535, Kind::Kept(95)), 3);
-    asked(b"65535 lots: 1", with_pieces(waiting(o), 16, 0, 655350));
+    asked(rt, b"65535 lots: 1", with_pieces(waiting(o), 16, 0, 655350));
 }
 
-fn cut_lots() {
+fn cut_lots(rt: &impl Print) {
     let mut trades = [0u64; 1088];
     let s = funded();
     let t = buy(0, 5, CUT_TO_ONE);
-    after(b"an order's lots: 7", order(s, 0, t));
+    after(rt, b"an order's lots: 7", order(s, 0, t));
     let o = enter_offer(s, 0, Side::Buy, 0, 5, CUT_TO_ONE, 0, 1, &mut trades);
-    after(b"an offer's: 7", o);
+    after(rt, b"an offer's: 7", o);
     let o = enter_group(s, 0, 2, [t; 8], &mut trades);
-    after(b"a member's: 7, place 1", o);
+    after(rt, b"a member's: 7, place 1", o);
     let s = aged(4, Side::Buy, Kind::Closing, Phase::Closing);
     let o = enter_closing_order(s, 0, Side::Buy, 0, CUT_TO_ONE);
-    after(b"a closing order's: 7", o);
+    after(rt, b"a closing order's: 7", o);
 }
 
-pub fn stored_lots() {
-    all_lots();
-    waiting_lots();
-    cut_lots();
+pub fn stored_lots(rt: &impl Print) {
+    all_lots(rt);
+    waiting_lots(rt);
+    cut_lots(rt);
 }

@@ -1,5 +1,7 @@
 // Cases of the trading day that no script can say, run on the engine: states made by hand, what lies past the counts, 62,500 codes
 // of a member, numbers too long for a line, and what a call leaves as it was.
+#![tactic(auto)]
+
 mod lots;
 mod own_codes;
 
@@ -17,7 +19,7 @@ use lots::stored_lots;
 use market::{Kind, Order, Phase, Security, Side, State, Ticket, TimeInForce, Turnover};
 use own_codes::{codes_given, sound_codes};
 
-fn line_past_the_count() {
+fn line_past_the_count(rt: &impl Print) {
     let mut lines = table();
     lines[1] = Security {
         currency: 9,
@@ -26,39 +28,53 @@ fn line_past_the_count() {
         nominal: 1,
     };
     after(
+        rt,
         b"a wrong line past the count is not read",
         opening(1, 1, 1, lines, 0, 0),
     );
 }
 
-fn refused_opening_is_unsound() {
-    let s = after(b"refused opening: 17", opening(0, 0, 0, table(), 0, 0));
-    after(b"its state: 1", increase_money(s, 0, 0, 1));
+fn refused_opening_is_unsound(rt: &impl Print) {
+    let s = after(rt, b"refused opening: 17", opening(0, 0, 0, table(), 0, 0));
+    after(rt, b"its state: 1", increase_money(s, 0, 0, 1));
 }
 
-fn largest_number() {
+fn largest_number(rt: &impl Print) {
     after(
+        rt,
         b"the largest number: 7",
         increase_pieces(day(), 0, 0, 18446744073709551615),
     );
 }
 
-fn asked_counts(label: &[u8], participants: u64, currencies: u64, securities: u64) {
+fn asked_counts(
+    rt: &impl Print,
+    label: &[u8],
+    participants: u64,
+    currencies: u64,
+    securities: u64,
+) {
     let mut s = day();
     s.participants = participants;
     s.currencies = currencies;
     s.securities = securities;
-    asked(label, s);
+    asked(rt, label, s);
 }
 
-fn unsound_counts() {
-    asked_counts(b"no participants: 1", 0, 2, 2);
-    asked_counts(b"17 participants: 1", 17, 2, 2);
-    asked_counts(b"5 currencies: 1", 2, 5, 2);
-    asked_counts(b"far too many securities: 1", 2, 2, 18446744073709551615);
+fn unsound_counts(rt: &impl Print) {
+    asked_counts(rt, b"no participants: 1", 0, 2, 2);
+    asked_counts(rt, b"17 participants: 1", 17, 2, 2);
+    asked_counts(rt, b"5 currencies: 1", 2, 5, 2);
+    asked_counts(
+        rt,
+        b"far too many securities: 1",
+        2,
+        2,
+        18446744073709551615,
+    );
 }
 
-fn asked_line(label: &[u8], currency: u64, lot: u64, step: u64) {
+fn asked_line(rt: &impl Print, label: &[u8], currency: u64, lot: u64, step: u64) {
     let mut s = day();
     s.table[1] = Security {
         currency,
@@ -66,84 +82,92 @@ fn asked_line(label: &[u8], currency: u64, lot: u64, step: u64) {
         step,
         nominal: 0,
     };
-    asked(label, s);
+    asked(rt, label, s);
 }
 
-fn unsound_lines() {
-    asked_line(b"a line's currency unknown: 1", 2, 10, 5);
-    asked_line(b"lot 0: 1", 0, 0, 5);
-    asked_line(b"step 0: 1", 0, 10, 0);
+fn unsound_lines(rt: &impl Print) {
+    asked_line(rt, b"a line's currency unknown: 1", 2, 10, 5);
+    asked_line(rt, b"lot 0: 1", 0, 0, 5);
+    asked_line(rt, b"step 0: 1", 0, 10, 0);
 }
 
-fn asked_nominal(label: &[u8], nominal: u64) {
+fn asked_nominal(rt: &impl Print, label: &[u8], nominal: u64) {
     let mut s = day();
     s.table[1] = bond(nominal);
-    asked(label, s);
+    asked(rt, label, s);
 }
 
-fn nominals() {
-    asked_nominal(b"nominal 1: 1", 1);
-    asked_nominal(b"nominal 9999: 1", 9999);
-    asked_nominal(b"nominal 10000, sound", 10000);
-    asked_nominal(b"nominal 500000, sound", 500000);
-    asked_nominal(b"nominal 500001: 1", 500001);
-    asked_nominal(b"the largest nominal: 1", 18446744073709551615);
+fn nominals(rt: &impl Print) {
+    asked_nominal(rt, b"nominal 1: 1", 1);
+    asked_nominal(rt, b"nominal 9999: 1", 9999);
+    asked_nominal(rt, b"nominal 10000, sound", 10000);
+    asked_nominal(rt, b"nominal 500000, sound", 500000);
+    asked_nominal(rt, b"nominal 500001: 1", 500001);
+    asked_nominal(rt, b"the largest nominal: 1", 18446744073709551615);
 }
 
-fn asked_turnover(label: &[u8], codes: u64, pieces: u64, value: u64) {
+fn asked_turnover(rt: &impl Print, label: &[u8], codes: u64, pieces: u64, value: u64) {
     let mut s = with_codes(day(), 1, codes);
     s.turnover[1] = Turnover { pieces, value };
-    asked(label, s);
+    asked(rt, label, s);
 }
 
-fn unsound_turnover() {
-    asked_turnover(b"62500 codes of one participant, sound", 62500, 0, 0);
-    asked_turnover(b"62501: 1", 62501, 0, 0);
-    asked_turnover(b"the largest count: 1", 18446744073709551615, 0, 0);
+fn unsound_turnover(rt: &impl Print) {
+    asked_turnover(rt, b"62500 codes of one participant, sound", 62500, 0, 0);
+    asked_turnover(rt, b"62501: 1", 62501, 0, 0);
+    asked_turnover(rt, b"the largest count: 1", 18446744073709551615, 0, 0);
     asked_turnover(
+        rt,
         b"more pieces traded than one code can: 1",
         1,
         10000001,
         10000001,
     );
-    asked_turnover(b"T below Q: 1", 1, 10, 9);
-    asked_turnover(b"more than 1000000 a piece: 1", 1, 10, 10000001);
+    asked_turnover(rt, b"T below Q: 1", 1, 10, 9);
+    asked_turnover(rt, b"more than 1000000 a piece: 1", 1, 10, 10000001);
 }
 
 // Its arrival, 3, is sound whatever the rest.
-fn asked_order(label: &[u8], code: u64, participant: u64, security: u64, lots: u16) {
+fn asked_order(
+    rt: &impl Print,
+    label: &[u8],
+    code: u64,
+    participant: u64,
+    security: u64,
+    lots: u16,
+) {
     let o = sell_order(code, participant, security, lots, Kind::Kept(95));
-    asked(label, waiting(arrived(o, 3)));
+    asked(rt, label, waiting(arrived(o, 3)));
 }
 
-fn order_names() {
-    asked_order(b"a waiting order, sound", 3, 1, 0, 10);
-    asked_order(b"code 0: 1", 0, 1, 0, 10);
-    asked_order(b"a code not given: 1", 5, 1, 0, 10);
-    asked_order(b"unknown participant: 1", 3, 2, 0, 10);
-    asked_order(b"unknown security: 1", 3, 1, 2, 10);
+fn order_names(rt: &impl Print) {
+    asked_order(rt, b"a waiting order, sound", 3, 1, 0, 10);
+    asked_order(rt, b"code 0: 1", 0, 1, 0, 10);
+    asked_order(rt, b"a code not given: 1", 5, 1, 0, 10);
+    asked_order(rt, b"unknown participant: 1", 3, 2, 0, 10);
+    asked_order(rt, b"unknown security: 1", 3, 1, 2, 10);
 }
 
-fn order_lots() {
-    asked_order(b"no lots: 1", 3, 1, 0, 0);
-    asked_order(b"10001 lots: 1", 3, 1, 0, 10001);
+fn order_lots(rt: &impl Print) {
+    asked_order(rt, b"no lots: 1", 3, 1, 0, 0);
+    asked_order(rt, b"10001 lots: 1", 3, 1, 0, 10001);
 }
 
-fn kinds_while_open() {
-    asked_kind(b"price 0: 1", Kind::Kept(0));
-    asked_kind(b"price off the step: 1", Kind::Kept(96));
-    asked_kind(b"price above 1000000: 1", Kind::Kept(1000005));
-    asked_kind(b"a closing order while open: 1", Kind::Closing);
+fn kinds_while_open(rt: &impl Print) {
+    asked_kind(rt, b"price 0: 1", Kind::Kept(0));
+    asked_kind(rt, b"price off the step: 1", Kind::Kept(96));
+    asked_kind(rt, b"price above 1000000: 1", Kind::Kept(1000005));
+    asked_kind(rt, b"a closing order while open: 1", Kind::Closing);
 }
 
 // The waiting order in a security with a nominal; and a buy of 10 lots at 9950, with this blocked.
-fn asked_percent(label: &[u8], price: u64) {
+fn asked_percent(rt: &impl Print, label: &[u8], price: u64) {
     let mut s = waiting(sell_order(3, 1, 0, 10, Kind::Kept(price)));
     s.table[0] = bond(10000);
-    asked(label, s);
+    asked(rt, label, s);
 }
 
-fn asked_percent_buy(label: &[u8], blocked: u64) {
+fn asked_percent_buy(rt: &impl Print, label: &[u8], blocked: u64) {
     let mut s = with_codes(with_money(day(), 0, 0, blocked), 0, 4);
     s.table[0] = bond(100001);
     s.orders[0] = Order {
@@ -156,21 +180,22 @@ fn asked_percent_buy(label: &[u8], blocked: u64) {
         kind: Kind::Kept(9950),
     };
     s.count = 1;
-    asked(label, s);
+    asked(rt, label, s);
 }
 
-fn percent_orders() {
-    asked_percent(b"200 percent, sound", 20000);
-    asked_percent(b"above 200 percent: 1", 20005);
-    asked_percent_buy(b"9950099 blocked for 9950099.5, sound", 9950099);
-    asked_percent_buy(b"a unit more: 1", 9950100);
-    asked_percent_buy(b"price times pieces blocked: 1", 995000);
+fn percent_orders(rt: &impl Print) {
+    asked_percent(rt, b"200 percent, sound", 20000);
+    asked_percent(rt, b"above 200 percent: 1", 20005);
+    asked_percent_buy(rt, b"9950099 blocked for 9950099.5, sound", 9950099);
+    asked_percent_buy(rt, b"a unit more: 1", 9950100);
+    asked_percent_buy(rt, b"price times pieces blocked: 1", 995000);
 }
 
-fn kinds_while_closing() {
-    asked_closing(b"a kept order while closing: 1", Kind::Kept(95), 0, 0);
-    asked_closing(b"a closing order where Q is 0: 1", Kind::Closing, 0, 0);
+fn kinds_while_closing(rt: &impl Print) {
+    asked_closing(rt, b"a kept order while closing: 1", Kind::Kept(95), 0, 0);
+    asked_closing(rt, b"a closing order where Q is 0: 1", Kind::Closing, 0, 0);
     asked_closing(
+        rt,
         b"a closing order where Q is above 0, sound",
         Kind::Closing,
         10,
@@ -178,52 +203,55 @@ fn kinds_while_closing() {
     );
 }
 
-fn kinds_while_collecting() {
+fn kinds_while_collecting(rt: &impl Print) {
     let kept = Kind::Kept(95);
-    asked_collecting(b"a kept order while collecting, sound", kept, 0, 0);
-    asked_collecting(b"Q and T while collecting, sound", kept, 10, 950);
-    asked_collecting(b"price off the step: 1", Kind::Kept(96), 0, 0);
+    asked_collecting(rt, b"a kept order while collecting, sound", kept, 0, 0);
+    asked_collecting(rt, b"Q and T while collecting, sound", kept, 10, 950);
+    asked_collecting(rt, b"price off the step: 1", Kind::Kept(96), 0, 0);
     asked_collecting(
+        rt,
         b"a closing order while collecting: 1",
         Kind::Closing,
         10,
         950,
     );
     let s = in_phase(Phase::Closed, kept, 0, 0);
-    asked(b"a kept order when closed: 1", s);
+    asked(rt, b"a kept order when closed: 1", s);
 }
 
 // Two orders of 5 lots, of codes 3 and 4.
-fn asked_list(label: &[u8], count: usize) {
+fn asked_list(rt: &impl Print, label: &[u8], count: usize) {
     let mut s = waiting(sell_order(3, 1, 0, 5, Kind::Kept(95)));
     s.orders[1] = sell_order(4, 1, 0, 5, Kind::Kept(95));
     s.count = count;
-    asked(label, s);
+    asked(rt, label, s);
 }
 
-fn lists() {
-    asked_list(b"two orders that share what is blocked, sound", 2);
-    asked_list(b"129 orders: 1", 129);
-    asked_list(b"far too many orders: 1", 18446744073709551615);
+fn lists(rt: &impl Print) {
+    asked_list(rt, b"two orders that share what is blocked, sound", 2);
+    asked_list(rt, b"129 orders: 1", 129);
+    asked_list(rt, b"far too many orders: 1", 18446744073709551615);
 }
 
-fn blocked_pieces() {
+fn blocked_pieces(rt: &impl Print) {
     let s = waiting(sell_order(3, 1, 0, 10, Kind::Kept(95)));
-    asked(b"a piece too few blocked: 1", with_pieces(s, 16, 0, 99));
+    asked(rt, b"a piece too few blocked: 1", with_pieces(s, 16, 0, 99));
     asked(
+        rt,
         b"pieces blocked for no order: 1",
         with_pieces(day(), 1, 0, 1),
     );
 }
 
-fn asked_money(label: &[u8], place: usize, free: u64, blocked: u64) {
-    asked(label, with_money(day(), place, free, blocked));
+fn asked_money(rt: &impl Print, label: &[u8], place: usize, free: u64, blocked: u64) {
+    asked(rt, label, with_money(day(), place, free, blocked));
 }
 
-fn unsound_money() {
-    asked_money(b"money blocked for no order: 1", 16, 0, 1);
-    asked_money(b"a total above its limit: 1", 17, 1000000000000001, 0);
+fn unsound_money(rt: &impl Print) {
+    asked_money(rt, b"money blocked for no order: 1", 16, 0, 1);
+    asked_money(rt, b"a total above its limit: 1", 17, 1000000000000001, 0);
     asked_money(
+        rt,
         b"the largest amounts: 1",
         17,
         18446744073709551615,
@@ -231,29 +259,35 @@ fn unsound_money() {
     );
 }
 
-fn asked_rate(label: &[u8], rate: u64) {
+fn asked_rate(rt: &impl Print, label: &[u8], rate: u64) {
     let mut s = day();
     s.rate = rate;
-    asked(label, s);
+    asked(rt, label, s);
 }
 
-fn rates() {
-    asked_rate(b"rate 1000, sound", 1000);
-    asked_rate(b"rate 1001: 1", 1001);
-    asked_rate(b"the largest rate: 1", 18446744073709551615);
+fn rates(rt: &impl Print) {
+    asked_rate(rt, b"rate 1000, sound", 1000);
+    asked_rate(rt, b"rate 1001: 1", 1001);
+    asked_rate(rt, b"the largest rate: 1", 18446744073709551615);
 }
 
 // The market's account stands at 256 + currency, behind the positions of 16 participants.
-fn accounts() {
+fn accounts(rt: &impl Print) {
     let s = with_money(day(), 257, 5, 0);
     asked(
+        rt,
         b"a total at its limit with the account, sound",
         with_money(s, 17, 999999999999995, 0),
     );
-    asked(b"a unit above it: 1", with_money(s, 17, 999999999999996, 0));
-    asked_money(b"the largest account: 1", 257, 18446744073709551615, 0);
-    asked_money(b"blocked behind the account, not read", 257, 0, 7);
+    asked(
+        rt,
+        b"a unit above it: 1",
+        with_money(s, 17, 999999999999996, 0),
+    );
+    asked_money(rt, b"the largest account: 1", 257, 18446744073709551615, 0);
+    asked_money(rt, b"blocked behind the account, not read", 257, 0, 7);
     asked_money(
+        rt,
         b"an unknown currency's account, not read",
         258,
         18446744073709551615,
@@ -261,71 +295,86 @@ fn accounts() {
     );
 }
 
-fn increases_beside_an_account() {
+fn increases_beside_an_account(rt: &impl Print) {
     let s = with_money(day(), 256, 999999999999999, 0);
     after(
+        rt,
         b"an increase by all that is left",
         increase_money(s, 0, 0, 1),
     );
-    after(b"and by one more: 9", increase_money(s, 0, 0, 2));
+    after(rt, b"and by one more: 9", increase_money(s, 0, 0, 2));
 }
 
 // A security's total is over participants alone: what stands in the market's row of pieces is not read. One participant,
 // one security.
-fn pieces_in_the_markets_row() {
+fn pieces_in_the_markets_row(rt: &impl Print) {
     let o = opening(1, 1, 1, table(), 0, 0);
     let s = with_pieces(o.state, 256, 1, 0);
     after(
+        rt,
         b"pieces at their limit, one more in the market's row, sound",
         decrease_pieces(with_pieces(s, 0, 1000000000000, 0), 0, 0, 1),
     );
     let s = after(
+        rt,
         b"an increase up to the limit beside it",
         increase_pieces(with_pieces(s, 0, 999999999999, 0), 0, 0, 1),
     );
-    after(b"and by one more: 9", increase_pieces(s, 0, 0, 1));
+    after(rt, b"and by one more: 9", increase_pieces(s, 0, 0, 1));
 }
 
 // Price and first day of the deal at the list's last place.
-fn last_deal(label: &[u8], s: State) {
+fn last_deal(rt: &impl Print, label: &[u8], s: State) {
     let records = s.records;
     let x = records.deals[63];
-    position(label, x.price as u64, x.first as u64);
+    position(rt, label, x.price as u64, x.first as u64);
 }
 
-fn unread() {
+fn unread(rt: &impl Print) {
     let s = after(
+        rt,
         b"anything past the counts, sound",
         increase_money(with_unread(), 0, 0, 1),
     );
-    money(b"an unknown currency's position stays", s, 2);
-    last_deal(b"a deal past the count stays", s);
-    counts(b"counts past the participants stay", s);
+    money(rt, b"an unknown currency's position stays", s, 2);
+    last_deal(rt, b"a deal past the count stays", s);
+    counts(rt, b"counts past the participants stay", s);
 }
 
 // A refusal hands back the very state, sound or not.
-fn handed_back() {
-    let s = after(b"amount 0: 7", increase_money(with_unread(), 0, 0, 0));
-    money(b"what is not read is handed back", s, 32);
-    last_deal(b"a deal past the count, too", s);
-    counts(b"counts past the participants, too", s);
+fn handed_back(rt: &impl Print) {
+    let s = after(rt, b"amount 0: 7", increase_money(with_unread(), 0, 0, 0));
+    money(rt, b"what is not read is handed back", s, 32);
+    last_deal(rt, b"a deal past the count, too", s);
+    counts(rt, b"counts past the participants, too", s);
     let s = with_money(day(), 16, 5, 1);
-    let s = after(b"money blocked for no order: 1", increase_money(s, 1, 0, 1));
-    money(b"and handed back", s, 16);
+    let s = after(
+        rt,
+        b"money blocked for no order: 1",
+        increase_money(s, 1, 0, 1),
+    );
+    money(rt, b"and handed back", s, 16);
 }
 
-fn one_trade() {
+fn one_trade(rt: &impl Print) {
     let s = kept(funded(), 1, sell(0, 95, 10));
-    let s = traded(b"buy 20 at 100", s, 0, buy(0, 100, 20), TimeInForce::Kept);
+    let s = traded(
+        rt,
+        b"buy 20 at 100",
+        s,
+        0,
+        buy(0, 100, 20),
+        TimeInForce::Kept,
+    );
     let force = TimeInForce::FillOrKill;
-    traded(b"sell 5 whole or nothing", s, 1, sell(0, 100, 5), force);
+    traded(rt, b"sell 5 whole or nothing", s, 1, sell(0, 100, 5), force);
 }
 
-fn own_order() {
+fn own_order(rt: &impl Print) {
     let o = increase_pieces(funded(), 0, 0, 100);
     let s = kept(o.state, 0, sell(0, 95, 10));
     let label = b"buy 10 at 100 from himself";
-    traded(label, s, 0, buy(0, 100, 10), TimeInForce::Kept);
+    traded(rt, label, s, 0, buy(0, 100, 10), TimeInForce::Kept);
 }
 
 fn three_sells() -> State {
@@ -334,21 +383,21 @@ fn three_sells() -> State {
     kept(s, 1, sell(0, 95, 5))
 }
 
-fn bought_at_once(label: &[u8], s: State, lots: u64) -> State {
+fn bought_at_once(rt: &impl Print, label: &[u8], s: State, lots: u64) -> State {
     let force = TimeInForce::ImmediateOrCancel;
-    traded(label, s, 0, buy(0, 100, lots), force)
+    traded(rt, label, s, 0, buy(0, 100, lots), force)
 }
 
-fn priorities() {
-    let s = bought_at_once(b"the cheaper one, of two the earlier", three_sells(), 4);
-    let s = bought_at_once(b"its last lot, then the next", s, 6);
-    bought_at_once(b"then the dearer one", s, 6);
+fn priorities(rt: &impl Print) {
+    let s = bought_at_once(rt, b"the cheaper one, of two the earlier", three_sells(), 4);
+    let s = bought_at_once(rt, b"its last lot, then the next", s, 6);
+    bought_at_once(rt, b"then the dearer one", s, 6);
 }
 
-fn unsound_order() {
+fn unsound_order(rt: &impl Print) {
     let mut s = funded();
     s.participants = 0;
-    bought(b"unsound: 1", s);
+    bought(rt, b"unsound: 1", s);
 }
 
 fn linked_reserves() -> State {
@@ -365,11 +414,19 @@ fn linked_day() -> State {
 }
 
 // A group of participant 0, lent a list of sevens; then 8 numbers of the list from `first` on.
-fn grouped(label: &[u8], s: State, count: u64, members: [Ticket; 8], listed: &[u8], first: usize) {
+fn grouped(
+    rt: &impl Print,
+    label: &[u8],
+    s: State,
+    count: u64,
+    members: [Ticket; 8],
+    listed: &[u8],
+    first: usize,
+) {
     let mut trades = [7u64; 1088];
     let o = enter_group(s, 0, count, members, &mut trades);
-    after(label, o);
-    numbers(listed, &trades, first);
+    after(rt, label, o);
+    numbers(rt, listed, &trades, first);
 }
 
 // 10 lots of security 0 are sold at 100, then 10 of security 1 bought at this price.
@@ -379,8 +436,9 @@ fn sold_and_bought(price: u64) -> [Ticket; 8] {
     members
 }
 
-fn groups_of_two() {
+fn groups_of_two(rt: &impl Print) {
     grouped(
+        rt,
         b"sell, then buy for the proceeds",
         linked_day(),
         2,
@@ -389,6 +447,7 @@ fn groups_of_two() {
         16,
     );
     grouped(
+        rt,
         b"proceeds too small: 14, place 2",
         linked_day(),
         2,
@@ -398,10 +457,11 @@ fn groups_of_two() {
     );
 }
 
-fn group_of_eight() {
+fn group_of_eight(rt: &impl Print) {
     let mut members = [sell(0, 100, 1); 8];
     members[7] = sell(0, 105, 3);
     grouped(
+        rt,
         b"eight members, the last refused: 15, place 8",
         linked_day(),
         8,
@@ -411,43 +471,46 @@ fn group_of_eight() {
     );
 }
 
-fn linked_pair(label: &[u8], s: State) {
+fn linked_pair(rt: &impl Print, label: &[u8], s: State) {
     let mut trades = [0u64; 1088];
     let members = [sell(0, 100, 1); 8];
     let o = enter_group(s, 0, 2, members, &mut trades);
-    after(label, o);
+    after(rt, label, o);
 }
 
-fn group_codes() {
+fn group_codes(rt: &impl Print) {
     let mut s = linked_day();
     s.currencies = 0;
-    linked_pair(b"unsound: 1", s);
+    linked_pair(rt, b"unsound: 1", s);
     let s = linked_day();
-    linked_pair(b"the last two codes", with_codes(s, 0, 62498));
+    linked_pair(rt, b"the last two codes", with_codes(s, 0, 62498));
     linked_pair(
+        rt,
         b"codes for one member only: 13, place 2",
         with_codes(s, 0, 62499),
     );
-    linked_pair(b"for none: 13, place 1", with_codes(s, 0, 62500));
+    linked_pair(rt, b"for none: 13, place 1", with_codes(s, 0, 62500));
     linked_pair(
+        rt,
         b"nor any pieces: 13, place 1",
         with_codes(funded(), 0, 62500),
     );
     linked_pair(
+        rt,
         b"a group beside counts past the participants",
         with_counts_past(s, 18446744073709551615),
     );
 }
 
 // Participant 0 has had 7 codes, participant 1 all of his; both of his orders, codes 1 and 2, are met.
-fn group_among_others() {
+fn group_among_others(rt: &impl Print) {
     let mut trades = [7u64; 1088];
     let s = with_codes(with_codes(linked_day(), 0, 7), 1, 62500);
     let o = enter_group(s, 0, 2, sold_and_bought(100), &mut trades);
-    let s = after(b"a group's codes follow its participant's", o);
-    numbers(b"its first trade", &trades, 0);
-    numbers(b"its second trade", &trades, 8);
-    counts(b"codes given", s);
+    let s = after(rt, b"a group's codes follow its participant's", o);
+    numbers(rt, b"its first trade", &trades, 0);
+    numbers(rt, b"its second trade", &trades, 8);
+    counts(rt, b"codes given", s);
 }
 
 // Trades 10 at 95 and 5 at 100: the closing price is 97. Participant 0 still buys 5 at 100.
@@ -463,44 +526,55 @@ fn closing() -> State {
 }
 
 // A closing buy of participant 0.
-fn closing_buy(label: &[u8], s: State, security: u64, lots: u64) -> State {
-    after(label, enter_closing_order(s, 0, Side::Buy, security, lots))
+fn closing_buy(rt: &impl Print, label: &[u8], s: State, security: u64, lots: u64) -> State {
+    after(
+        rt,
+        label,
+        enter_closing_order(s, 0, Side::Buy, security, lots),
+    )
 }
 
-fn closing_codes() {
+fn closing_codes(rt: &impl Print) {
     let s = with_codes(closing(), 0, 62500);
-    closing_buy(b"62500 codes given: 13", s, 0, 1);
-    closing_buy(b"for more than his money: 13", s, 0, 10000);
-    closing_buy(b"where Q is 0: 11", s, 1, 1);
-    closing_buy(b"beside 128 orders: 12", with_codes(full(), 0, 62500), 0, 1);
+    closing_buy(rt, b"62500 codes given: 13", s, 0, 1);
+    closing_buy(rt, b"for more than his money: 13", s, 0, 10000);
+    closing_buy(rt, b"where Q is 0: 11", s, 1, 1);
+    closing_buy(
+        rt,
+        b"beside 128 orders: 12",
+        with_codes(full(), 0, 62500),
+        0,
+        1,
+    );
     let o = enter_closing_order(s, 1, Side::Sell, 0, 1);
-    let s = after(b"another participant", o);
-    code_and_arrival(b"his code and arrival", s);
+    let s = after(rt, b"another participant", o);
+    code_and_arrival(rt, b"his code and arrival", s);
 }
 
-fn last_closing_codes() {
+fn last_closing_codes(rt: &impl Print) {
     let s = with_codes(closing(), 0, 62499);
-    let s = closing_buy(b"the last code", s, 0, 1);
-    closing_buy(b"one more: 13", s, 0, 1);
+    let s = closing_buy(rt, b"the last code", s, 0, 1);
+    closing_buy(rt, b"one more: 13", s, 0, 1);
     let s = with_counts_past(closing(), 18446744073709551615);
-    let s = closing_buy(b"beside counts past the participants", s, 0, 1);
-    counts(b"codes given", s);
+    let s = closing_buy(rt, b"beside counts past the participants", s, 0, 1);
+    counts(rt, b"codes given", s);
 }
 
-fn unsound_session() {
+fn unsound_session(rt: &impl Print) {
     let mut trades = [0u64; 1088];
     let mut s = turned_over();
     s.count = 129;
-    after(b"start of an unsound state: 1", start_closing(s));
+    after(rt, b"start of an unsound state: 1", start_closing(s));
     after(
+        rt,
         b"closing order: 1",
         enter_closing_order(s, 0, Side::Buy, 0, 1),
     );
-    after(b"end: 1", end_session(s, &mut trades));
+    after(rt, b"end: 1", end_session(s, &mut trades));
 }
 
 // A closing buy of one lot where T is this and Q 9,999,990,000,000, which 16 participants' codes allow: twice T takes 65 bits.
-fn closing_near_the_limit(label: &[u8], traded: u64) {
+fn closing_near_the_limit(rt: &impl Print, label: &[u8], traded: u64) {
     let o = increase_money(closing(), 0, 0, 10000000);
     let mut s = o.state;
     s.participants = 16;
@@ -510,14 +584,14 @@ fn closing_near_the_limit(label: &[u8], traded: u64) {
         pieces: 9999990000000,
         value: traded,
     };
-    let s = after(label, enter_closing_order(s, 0, Side::Buy, 0, 1));
-    money(b"free and blocked money of the buyer", s, 0);
+    let s = after(rt, label, enter_closing_order(s, 0, Side::Buy, 0, 1));
+    money(rt, b"free and blocked money of the buyer", s, 0);
 }
 
-fn closing_prices() {
-    closing_near_the_limit(b"closing price 1000000", 9999990000000000000);
-    closing_near_the_limit(b"a half below it goes up", 9999985000005000000);
-    closing_near_the_limit(b"one less: 999999", 9999985000004999999);
+fn closing_prices(rt: &impl Print) {
+    closing_near_the_limit(rt, b"closing price 1000000", 9999990000000000000);
+    closing_near_the_limit(rt, b"a half below it goes up", 9999985000005000000);
+    closing_near_the_limit(rt, b"one less: 999999", 9999985000004999999);
 }
 
 // A sound closing price of 1000000 for 10000000 pieces of nominal 500000, at the highest rate: no sum is larger.
@@ -540,24 +614,24 @@ fn largest_closing() -> State {
     s
 }
 
-fn largest_trade() {
+fn largest_trade(rt: &impl Print) {
     let mut trades = [7u64; 1088];
     let o = enter_closing_order(largest_closing(), 0, Side::Buy, 0, 10000);
-    let s = after(b"the largest buy", o);
-    money(b"all is blocked", s, 0);
+    let s = after(rt, b"the largest buy", o);
+    money(rt, b"all is blocked", s, 0);
     let o = enter_closing_order(s, 1, Side::Sell, 0, 10000);
-    let s = after(b"the largest trade", end_session(o.state, &mut trades));
-    numbers(b"its sum", &trades, 0);
-    money(b"what the seller gets", s, 16);
-    money(b"what the market gets", s, 256);
+    let s = after(rt, b"the largest trade", end_session(o.state, &mut trades));
+    numbers(rt, b"its sum", &trades, 0);
+    money(rt, b"what the seller gets", s, 16);
+    money(rt, b"what the market gets", s, 256);
 }
 
-fn unsound_collecting() {
+fn unsound_collecting(rt: &impl Print) {
     let mut trades = [0u64; 1088];
     let mut s = funded();
     s.count = 129;
-    after(b"start of collecting: 1", start_collecting(s));
-    after(b"end of collecting: 1", end_collecting(s, &mut trades));
+    after(rt, b"start of collecting: 1", start_collecting(s));
+    after(rt, b"end of collecting: 1", end_collecting(s, &mut trades));
 }
 
 fn collecting() -> State {
@@ -565,18 +639,20 @@ fn collecting() -> State {
     o.state
 }
 
-fn collecting_codes() {
+fn collecting_codes(rt: &impl Print) {
     after(
+        rt,
         b"codes given to the first participant: 21",
         start_collecting(with_codes(funded(), 0, 62500)),
     );
     after(
+        rt,
         b"a code given to the last one: 21",
         start_collecting(with_codes(funded(), 1, 1)),
     );
     let s = with_codes(collecting(), 0, 62500);
-    after(b"62500 codes given: 13", order(s, 0, buy(0, 100, 1)));
-    after(b"another participant", order(s, 1, sell(0, 100, 1)));
+    after(rt, b"62500 codes given: 13", order(s, 0, buy(0, 100, 1)));
+    after(rt, b"another participant", order(s, 1, sell(0, 100, 1)));
 }
 
 // Sell 10 at 95 and buy 20 at 100 are collected, where Q is 10 and T 950.
@@ -591,17 +667,18 @@ fn collected() -> State {
 }
 
 // The lower of two prices at which 10 lots trade.
-fn one_auction() {
+fn one_auction(rt: &impl Print) {
     let mut trades = [7u64; 1088];
     let s = after(
+        rt,
         b"end of collecting",
         end_collecting(collected(), &mut trades),
     );
-    numbers(b"its trade", &trades, 0);
-    numbers(b"the numbers after it", &trades, 8);
-    money(b"free and blocked money of the buyer", s, 0);
+    numbers(rt, b"its trade", &trades, 0);
+    numbers(rt, b"the numbers after it", &trades, 8);
+    money(rt, b"free and blocked money of the buyer", s, 0);
     let t = s.turnover[0];
-    position(b"Q and T stay", t.pieces, t.value);
+    position(rt, b"Q and T stay", t.pieces, t.value);
 }
 
 // Closing buys 3 and 4, sell 5.
@@ -612,10 +689,14 @@ fn paired() -> State {
     o.state
 }
 
-fn two_pairs() {
+fn two_pairs(rt: &impl Print) {
     let mut trades = [7u64; 1088];
-    after(b"end of the session", end_session(paired(), &mut trades));
-    numbers(b"the numbers after them", &trades, 16);
+    after(
+        rt,
+        b"end of the session",
+        end_session(paired(), &mut trades),
+    );
+    numbers(rt, b"the numbers after them", &trades, 16);
 }
 
 // 128 closing orders of one lot: participant 0 buys and participant 1 sells, in turn.
@@ -634,63 +715,63 @@ fn full() -> State {
     s
 }
 
-fn all_pairs() {
+fn all_pairs(rt: &impl Print) {
     let mut trades = [0u64; 1088];
-    after(b"64 trades", end_session(full(), &mut trades));
-    numbers(b"the last of them", &trades, 504);
-    numbers(b"the numbers after it", &trades, 512);
+    after(rt, b"64 trades", end_session(full(), &mut trades));
+    numbers(rt, b"the last of them", &trades, 504);
+    numbers(rt, b"the numbers after it", &trades, 512);
 }
 
-fn states() {
-    unsound_counts();
-    unsound_lines();
-    nominals();
-    unsound_turnover();
-    order_names();
-    order_lots();
-    kinds_while_open();
-    percent_orders();
-    kinds_while_closing();
-    kinds_while_collecting();
-    lists();
-    sound_codes();
-    blocked_pieces();
-    unsound_money();
-    rates();
-    accounts();
-    increases_beside_an_account();
-    pieces_in_the_markets_row();
+fn states(rt: &impl Print) {
+    unsound_counts(rt);
+    unsound_lines(rt);
+    nominals(rt);
+    unsound_turnover(rt);
+    order_names(rt);
+    order_lots(rt);
+    kinds_while_open(rt);
+    percent_orders(rt);
+    kinds_while_closing(rt);
+    kinds_while_collecting(rt);
+    lists(rt);
+    sound_codes(rt);
+    blocked_pieces(rt);
+    unsound_money(rt);
+    rates(rt);
+    accounts(rt);
+    increases_beside_an_account(rt);
+    pieces_in_the_markets_row(rt);
 }
 
-fn left_as_it_was() {
-    unread();
-    handed_back();
-    one_trade();
-    own_order();
-    priorities();
-    groups_of_two();
-    group_of_eight();
-    two_pairs();
-    all_pairs();
-    one_auction();
+fn left_as_it_was(rt: &impl Print) {
+    unread(rt);
+    handed_back(rt);
+    one_trade(rt);
+    own_order(rt);
+    priorities(rt);
+    groups_of_two(rt);
+    group_of_eight(rt);
+    two_pairs(rt);
+    all_pairs(rt);
+    one_auction(rt);
 }
 
-fn main() {
-    line_past_the_count();
-    refused_opening_is_unsound();
-    largest_number();
-    states();
-    left_as_it_was();
-    unsound_order();
-    codes_given();
-    group_codes();
-    group_among_others();
-    closing_codes();
-    last_closing_codes();
-    closing_prices();
-    largest_trade();
-    unsound_session();
-    collecting_codes();
-    unsound_collecting();
-    stored_lots();
+fn main(rt: HostRuntime) {
+    line_past_the_count(&rt);
+    refused_opening_is_unsound(&rt);
+    largest_number(&rt);
+    states(&rt);
+    left_as_it_was(&rt);
+    unsound_order(&rt);
+    codes_given(&rt);
+    group_codes(&rt);
+    group_among_others(&rt);
+    closing_codes(&rt);
+    last_closing_codes(&rt);
+    closing_prices(&rt);
+    largest_trade(&rt);
+    unsound_session(&rt);
+    collecting_codes(&rt);
+    unsound_collecting(&rt);
+    stored_lots(&rt);
 }

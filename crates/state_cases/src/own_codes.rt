@@ -16,191 +16,215 @@ fn five(code: u64, participant: u64, arrival: u32) -> Order {
 }
 
 // Two orders of participant 1, who has 4 codes of 9 given in all.
-fn asked_numbers(label: &[u8], first: u64, second: u64, older: u32, younger: u32) {
+fn asked_numbers(rt: &impl Print, label: &[u8], first: u64, second: u64, older: u32, younger: u32) {
     let mut s = with_codes(waiting(five(first, 1, older)), 0, 5);
     s.orders[1] = five(second, 1, younger);
     s.count = 2;
-    asked(label, s);
+    asked(rt, label, s);
 }
 
-fn arrivals() {
-    asked_numbers(b"codes 3 and 4, arrivals 8 and 9, sound", 3, 4, 8, 9);
-    asked_numbers(b"arrivals 1 and 2, sound", 3, 4, 1, 2);
-    asked_numbers(b"arrival 0: 1", 3, 4, 0, 9);
-    asked_numbers(b"one arrival of two orders: 1", 3, 4, 8, 8);
-    asked_numbers(b"arrivals that fall: 1", 3, 4, 9, 8);
-    asked_numbers(b"an arrival above all codes: 1", 3, 4, 8, 10);
-    asked_numbers(b"the largest arrival: 1", 3, 4, 8, 4294967295);
+fn arrivals(rt: &impl Print) {
+    asked_numbers(rt, b"codes 3 and 4, arrivals 8 and 9, sound", 3, 4, 8, 9);
+    asked_numbers(rt, b"arrivals 1 and 2, sound", 3, 4, 1, 2);
+    asked_numbers(rt, b"arrival 0: 1", 3, 4, 0, 9);
+    asked_numbers(rt, b"one arrival of two orders: 1", 3, 4, 8, 8);
+    asked_numbers(rt, b"arrivals that fall: 1", 3, 4, 9, 8);
+    asked_numbers(rt, b"an arrival above all codes: 1", 3, 4, 8, 10);
+    asked_numbers(rt, b"the largest arrival: 1", 3, 4, 8, 4294967295);
 }
 
-fn codes_of_one() {
-    asked_numbers(b"codes 1 and 4, sound", 1, 4, 8, 9);
-    asked_numbers(b"code 0, its arrival sound: 1", 0, 4, 8, 9);
-    asked_numbers(b"one code of two orders: 1", 3, 3, 8, 9);
-    asked_numbers(b"codes that fall: 1", 4, 3, 8, 9);
-    asked_numbers(b"a code above his count, not above all: 1", 3, 5, 8, 9);
+fn codes_of_one(rt: &impl Print) {
+    asked_numbers(rt, b"codes 1 and 4, sound", 1, 4, 8, 9);
+    asked_numbers(rt, b"code 0, its arrival sound: 1", 0, 4, 8, 9);
+    asked_numbers(rt, b"one code of two orders: 1", 3, 3, 8, 9);
+    asked_numbers(rt, b"codes that fall: 1", 4, 3, 8, 9);
+    asked_numbers(rt, b"a code above his count, not above all: 1", 3, 5, 8, 9);
     let n: u64 = 18446744073709551615;
-    asked_numbers(b"the largest code: 1", 3, n, 8, 9);
+    asked_numbers(rt, b"the largest code: 1", 3, n, 8, 9);
 }
 
 // An order of participant 1, who has 4 codes, then one of participant 0, who has 5.
-fn asked_two(label: &[u8], first: u64, second: u64, older: u32, younger: u32) {
+fn asked_two(rt: &impl Print, label: &[u8], first: u64, second: u64, older: u32, younger: u32) {
     let s = with_pieces(waiting(five(first, 1, older)), 16, 0, 50);
     let mut s = with_codes(with_pieces(s, 0, 0, 50), 0, 5);
     s.orders[1] = five(second, 0, younger);
     s.count = 2;
-    asked(label, s);
+    asked(rt, label, s);
 }
 
-fn codes_of_two() {
-    asked_two(b"a lower code of another participant, sound", 4, 2, 8, 9);
-    asked_two(b"one code of two participants, sound", 4, 4, 8, 9);
-    asked_two(b"codes that rise, arrivals that fall: 1", 2, 4, 9, 8);
-    asked_two(b"one arrival of two participants: 1", 4, 2, 9, 9);
-    asked_two(b"a code above his count only: 1", 5, 2, 8, 9);
-    asked_two(b"the same code within another's, sound", 4, 5, 8, 9);
+fn codes_of_two(rt: &impl Print) {
+    asked_two(
+        rt,
+        b"a lower code of another participant, sound",
+        4,
+        2,
+        8,
+        9,
+    );
+    asked_two(rt, b"one code of two participants, sound", 4, 4, 8, 9);
+    asked_two(rt, b"codes that rise, arrivals that fall: 1", 2, 4, 9, 8);
+    asked_two(rt, b"one arrival of two participants: 1", 4, 2, 9, 9);
+    asked_two(rt, b"a code above his count only: 1", 5, 2, 8, 9);
+    asked_two(rt, b"the same code within another's, sound", 4, 5, 8, 9);
 }
 
 // Participant 1's code 3, participant 0's 1, then this code of participant 1.
-fn asked_around(label: &[u8], third: u64) {
+fn asked_around(rt: &impl Print, label: &[u8], third: u64) {
     let s = with_pieces(waiting(five(3, 1, 7)), 0, 0, 50);
     let mut s = with_codes(s, 0, 5);
     s.orders[1] = five(1, 0, 8);
     s.orders[2] = five(third, 1, 9);
     s.count = 3;
-    asked(label, s);
+    asked(rt, label, s);
 }
 
-fn codes_around_another() {
-    asked_around(b"his codes rise around another's, sound", 4);
-    asked_around(b"they do not: 1", 3);
-    asked_around(b"they fall, above the other's: 1", 2);
+fn codes_around_another(rt: &impl Print) {
+    asked_around(rt, b"his codes rise around another's, sound", 4);
+    asked_around(rt, b"they do not: 1", 3);
+    asked_around(rt, b"they fall, above the other's: 1", 2);
 }
 
 // Q where participant 0 has 2 codes and participant 1 has 3; T is the same.
-fn asked_pieces(label: &[u8], pieces: u64) {
+fn asked_pieces(rt: &impl Print, label: &[u8], pieces: u64) {
     let mut s = with_codes(with_codes(day(), 0, 2), 1, 3);
     s.turnover[1] = Turnover {
         pieces,
         value: pieces,
     };
-    asked(label, s);
+    asked(rt, label, s);
 }
 
-fn pieces_of_all_codes() {
-    asked_pieces(b"as many pieces as all codes can trade, sound", 50000000);
-    asked_pieces(b"a piece more: 1", 50000001);
+fn pieces_of_all_codes(rt: &impl Print) {
+    asked_pieces(
+        rt,
+        b"as many pieces as all codes can trade, sound",
+        50000000,
+    );
+    asked_pieces(rt, b"a piece more: 1", 50000001);
 }
 
 // What stands past the participants is neither read nor changed, the largest numbers too.
-fn orders_beside_counts_past() {
+fn orders_beside_counts_past(rt: &impl Print) {
     let s = with_counts_past(funded(), 18446744073709551615);
     let s = after(
+        rt,
         b"an order beside counts past the participants",
         order(s, 0, buy(0, 5, 1)),
     );
-    code_and_arrival(b"its code and arrival", s);
-    counts(b"one count rises", s);
-    let s = after(b"an order that meets it", order(s, 1, sell(0, 5, 1)));
-    counts(b"the other one rises", s);
+    code_and_arrival(rt, b"its code and arrival", s);
+    counts(rt, b"one count rises", s);
+    let s = after(rt, b"an order that meets it", order(s, 1, sell(0, 5, 1)));
+    counts(rt, b"the other one rises", s);
 }
 
-fn refusals_beside_counts_past() {
+fn refusals_beside_counts_past(rt: &impl Print) {
     let s = with_counts_past(funded(), 7);
     let s = after(
+        rt,
         b"a participant past the count: 4",
         order(s, 2, buy(0, 5, 1)),
     );
-    counts(b"a refusal leaves all counts", s);
+    counts(rt, b"a refusal leaves all counts", s);
     let s = after(
+        rt,
         b"an increase beside counts past",
         increase_money(s, 0, 0, 1),
     );
-    counts(b"leaves them, too", s);
+    counts(rt, b"leaves them, too", s);
 }
 
 // Ten lots of participant 1, who has 4 codes; this count past the participants.
-fn asked_arrival(label: &[u8], arrival: u32, past: u64) {
+fn asked_arrival(rt: &impl Print, label: &[u8], arrival: u32, past: u64) {
     let o = sell_order(3, 1, 0, 10, Kind::Kept(95));
-    asked(label, with_counts_past(waiting(arrived(o, arrival)), past));
+    asked(
+        rt,
+        label,
+        with_counts_past(waiting(arrived(o, arrival)), past),
+    );
 }
 
 // Counts past the participants do not widen what all codes allow.
-fn bounds_beside_counts_past() {
+fn bounds_beside_counts_past(rt: &impl Print) {
     let mut s = with_codes(with_counts_past(day(), 5), 1, 1);
     s.turnover[1] = Turnover {
         pieces: 10000001,
         value: 10000001,
     };
-    asked(b"more pieces than one code can, counts past: 1", s);
-    asked_arrival(b"arrival 4 of 4, counts past, sound", 4, 5);
-    asked_arrival(b"arrival 5 of 4, counts past: 1", 5, 5);
+    asked(rt, b"more pieces than one code can, counts past: 1", s);
+    asked_arrival(rt, b"arrival 4 of 4, counts past, sound", 4, 5);
+    asked_arrival(rt, b"arrival 5 of 4, counts past: 1", 5, 5);
     asked_arrival(
+        rt,
         b"arrival 4 of 4, the largest counts past, sound",
         4,
         18446744073709551615,
     );
     after(
+        rt,
         b"no code given but past the participants",
         start_collecting(with_counts_past(funded(), 5)),
     );
 }
 
 // So many participants, the last place's count above the limit.
-fn asked_last(label: &[u8], participants: u64) {
+fn asked_last(rt: &impl Print, label: &[u8], participants: u64) {
     let o = opening(participants, 1, 1, table(), 0, 0);
-    asked(label, with_codes(o.state, 15, 62501));
+    asked(rt, label, with_codes(o.state, 15, 62501));
 }
 
-fn counts_of_the_last() {
-    asked_last(b"62501 codes at place 15 of 15, sound", 15);
-    asked_last(b"62501 codes of the last of 16: 1", 16);
+fn counts_of_the_last(rt: &impl Print) {
+    asked_last(rt, b"62501 codes at place 15 of 15, sound", 15);
+    asked_last(rt, b"62501 codes of the last of 16: 1", 16);
 }
 
 // Participant 0 has all his codes.
-fn used_up() {
+fn used_up(rt: &impl Print) {
     let s = with_codes(funded(), 0, 62500);
     let t = buy(0, 5, 1);
-    bought(b"62500 codes given: 13", s);
+    bought(rt, b"62500 codes given: 13", s);
     after(
+        rt,
         b"an immediate order: 13",
         entered(s, 0, t, TimeInForce::ImmediateOrCancel),
     );
     after(
+        rt,
         b"whole or nothing, not fillable: 13",
         entered(s, 0, t, TimeInForce::FillOrKill),
     );
     after(
+        rt,
         b"for more than his money: 13",
         order(s, 0, buy(0, 1000000, 10000)),
     );
 }
 
-fn others_enter() {
+fn others_enter(rt: &impl Print) {
     let s = with_codes(funded(), 0, 62500);
-    let s = after(b"another participant", order(s, 1, sell(0, 95, 1)));
-    code_and_arrival(b"his code and arrival", s);
-    bought(b"and after him: 13", s);
+    let s = after(rt, b"another participant", order(s, 1, sell(0, 95, 1)));
+    code_and_arrival(rt, b"his code and arrival", s);
+    bought(rt, b"and after him: 13", s);
 }
 
-fn last_code() {
+fn last_code(rt: &impl Print) {
     let s = with_codes(with_codes(funded(), 0, 62499), 1, 62500);
-    let s = after(b"the last code", order(s, 0, buy(0, 5, 1)));
-    code_and_arrival(b"it and its arrival", s);
-    bought(b"one more: 13", s);
-    after(b"the other one: 13", order(s, 1, sell(0, 95, 1)));
-    bought(b"62501 codes: 1", with_codes(s, 0, 62501));
+    let s = after(rt, b"the last code", order(s, 0, buy(0, 5, 1)));
+    code_and_arrival(rt, b"it and its arrival", s);
+    bought(rt, b"one more: 13", s);
+    after(rt, b"the other one: 13", order(s, 1, sell(0, 95, 1)));
+    bought(rt, b"62501 codes: 1", with_codes(s, 0, 62501));
 }
 
 // Nothing is met and nothing waits, but the code is given.
-fn last_code_dropped() {
+fn last_code_dropped(rt: &impl Print) {
     let s = with_codes(funded(), 0, 62499);
     let force = TimeInForce::ImmediateOrCancel;
     let s = after(
+        rt,
         b"the last code, of an order that is dropped",
         entered(s, 0, buy(0, 5, 1), force),
     );
-    bought(b"one more: 13", s);
+    bought(rt, b"one more: 13", s);
 }
 
 // 16 participants with all their codes.
@@ -211,127 +235,138 @@ fn a_million() -> State {
     s
 }
 
-fn asked_million(label: &[u8], pieces: u64, value: u64) {
+fn asked_million(rt: &impl Print, label: &[u8], pieces: u64, value: u64) {
     let mut s = a_million();
     s.turnover[1] = Turnover { pieces, value };
-    asked(label, s);
+    asked(rt, label, s);
 }
 
-fn million_turnover() {
-    asked_million(b"1000000 codes in all, sound", 0, 0);
+fn million_turnover(rt: &impl Print) {
+    asked_million(rt, b"1000000 codes in all, sound", 0, 0);
     asked_million(
+        rt,
         b"the largest Q and T, sound",
         10000000000000,
         10000000000000000000,
     );
-    asked_million(b"Q larger: 1", 10000000000001, 10000000000001);
-    asked_million(b"T larger: 1", 10000000000000, 10000000000000000001);
+    asked_million(rt, b"Q larger: 1", 10000000000001, 10000000000001);
+    asked_million(rt, b"T larger: 1", 10000000000000, 10000000000000000001);
 }
 
-fn asked_late(label: &[u8], arrival: u32) {
+fn asked_late(rt: &impl Print, label: &[u8], arrival: u32) {
     let o = sell_order(62500, 1, 0, 10, Kind::Kept(95));
     let mut s = with_pieces(a_million(), 16, 0, 100);
     s.orders[0] = arrived(o, arrival);
     s.count = 1;
-    asked(label, s);
+    asked(rt, label, s);
 }
 
-fn million_arrivals() {
-    asked_late(b"arrival 1000000, sound", 1000000);
-    asked_late(b"arrival 1000001: 1", 1000001);
+fn million_arrivals(rt: &impl Print) {
+    asked_late(rt, b"arrival 1000000, sound", 1000000);
+    asked_late(rt, b"arrival 1000001: 1", 1000001);
     let s = with_codes(with_money(a_million(), 240, 50, 0), 15, 62499);
-    let s = after(b"the last code of all", order(s, 15, buy(0, 5, 1)));
-    code_and_arrival(b"it and its arrival", s);
-    after(b"one more: 13", order(s, 15, buy(0, 5, 1)));
+    let s = after(rt, b"the last code of all", order(s, 15, buy(0, 5, 1)));
+    code_and_arrival(rt, b"it and its arrival", s);
+    after(rt, b"one more: 13", order(s, 15, buy(0, 5, 1)));
 }
 
-fn four_orders(a: u64, b: u64, c: u64, d: u64) {
+fn four_orders(rt: &impl Print, a: u64, b: u64, c: u64, d: u64) {
     let s = a_million();
     let t = buy(0, 5, 1);
-    after(b"each of 16: 13", order(s, a, t));
-    after(b"each of 16: 13", order(s, b, t));
-    after(b"each of 16: 13", order(s, c, t));
-    after(b"each of 16: 13", order(s, d, t));
+    after(rt, b"each of 16: 13", order(s, a, t));
+    after(rt, b"each of 16: 13", order(s, b, t));
+    after(rt, b"each of 16: 13", order(s, c, t));
+    after(rt, b"each of 16: 13", order(s, d, t));
 }
 
-fn everybody() {
-    four_orders(0, 1, 2, 3);
-    four_orders(4, 5, 6, 7);
-    four_orders(8, 9, 10, 11);
-    four_orders(12, 13, 14, 15);
+fn everybody(rt: &impl Print) {
+    four_orders(rt, 0, 1, 2, 3);
+    four_orders(rt, 4, 5, 6, 7);
+    four_orders(rt, 8, 9, 10, 11);
+    four_orders(rt, 12, 13, 14, 15);
 }
 
 // Participant 0 meets 7 lots of two orders: all of the older, though its code is 4 and the younger's 2.
-fn older_first(label: &[u8], side: Side, t: Ticket) {
+fn older_first(rt: &impl Print, label: &[u8], side: Side, t: Ticket) {
     let s = aged(4, side, Kind::Kept(95), Phase::Open);
-    traded(label, s, 0, t, TimeInForce::Kept);
+    traded(rt, label, s, 0, t, TimeInForce::Kept);
 }
 
-fn older_in_auction(label: &[u8], side: Side, t: Ticket) {
+fn older_in_auction(rt: &impl Print, label: &[u8], side: Side, t: Ticket) {
     let mut trades = [7u64; 1088];
     let s = kept(aged(4, side, Kind::Kept(95), Phase::Collecting), 0, t);
-    after(label, end_collecting(s, &mut trades));
-    numbers(label, &trades, 0);
-    numbers(b"the next 8 numbers", &trades, 8);
+    after(rt, label, end_collecting(s, &mut trades));
+    numbers(rt, label, &trades, 0);
+    numbers(rt, b"the next 8 numbers", &trades, 8);
 }
 
-fn older_at_closing(label: &[u8], side: Side, t: Ticket) {
+fn older_at_closing(rt: &impl Print, label: &[u8], side: Side, t: Ticket) {
     let mut trades = [7u64; 1088];
     let s = aged(4, side, Kind::Closing, Phase::Closing);
     let counter = t.side;
     let o = enter_closing_order(s, 0, counter, t.security, t.lots);
-    after(label, end_session(o.state, &mut trades));
-    numbers(label, &trades, 0);
-    numbers(b"the next 8 numbers", &trades, 8);
+    after(rt, label, end_session(o.state, &mut trades));
+    numbers(rt, label, &trades, 0);
+    numbers(rt, b"the next 8 numbers", &trades, 8);
 }
 
-fn older() {
-    older_first(b"buy from the older sell", Side::Sell, buy(0, 95, 7));
-    older_first(b"sell to the older buy", Side::Buy, sell(0, 95, 7));
-    older_in_auction(b"the older sell in an auction", Side::Sell, buy(0, 95, 7));
-    older_in_auction(b"the older buy in an auction", Side::Buy, sell(0, 95, 7));
-    older_at_closing(b"the older sell at closing", Side::Sell, buy(0, 95, 7));
-    older_at_closing(b"the older buy at closing", Side::Buy, sell(0, 95, 7));
+fn older(rt: &impl Print) {
+    older_first(rt, b"buy from the older sell", Side::Sell, buy(0, 95, 7));
+    older_first(rt, b"sell to the older buy", Side::Buy, sell(0, 95, 7));
+    older_in_auction(
+        rt,
+        b"the older sell in an auction",
+        Side::Sell,
+        buy(0, 95, 7),
+    );
+    older_in_auction(
+        rt,
+        b"the older buy in an auction",
+        Side::Buy,
+        sell(0, 95, 7),
+    );
+    older_at_closing(rt, b"the older sell at closing", Side::Sell, buy(0, 95, 7));
+    older_at_closing(rt, b"the older buy at closing", Side::Buy, sell(0, 95, 7));
 }
 
 // Both orders have code 2.
-fn cancelled() {
+fn cancelled(rt: &impl Print) {
     let s = aged(2, Side::Buy, Kind::Kept(95), Phase::Open);
-    let s = after(b"his order of a code that two have", cancel(s, 0, 2));
-    money(b"his money is free", s, 0);
-    money(b"the other's is blocked", s, 16);
-    after(b"once more: 16", cancel(s, 0, 2));
-    let s = after(b"the other's", cancel(s, 1, 2));
-    money(b"and free", s, 16);
+    let s = after(rt, b"his order of a code that two have", cancel(s, 0, 2));
+    money(rt, b"his money is free", s, 0);
+    money(rt, b"the other's is blocked", s, 16);
+    after(rt, b"once more: 16", cancel(s, 0, 2));
+    let s = after(rt, b"the other's", cancel(s, 1, 2));
+    money(rt, b"and free", s, 16);
 }
 
-fn another_code() {
+fn another_code(rt: &impl Print) {
     let s = aged(4, Side::Buy, Kind::Kept(95), Phase::Open);
-    after(b"a code of another only: 16", cancel(s, 0, 4));
-    after(b"an arrival is no code: 16", cancel(s, 1, 8));
+    after(rt, b"a code of another only: 16", cancel(s, 0, 4));
+    after(rt, b"an arrival is no code: 16", cancel(s, 1, 8));
 }
 
-pub fn sound_codes() {
-    arrivals();
-    codes_of_one();
-    codes_of_two();
-    codes_around_another();
-    pieces_of_all_codes();
-    million_turnover();
-    counts_of_the_last();
-    bounds_beside_counts_past();
+pub fn sound_codes(rt: &impl Print) {
+    arrivals(rt);
+    codes_of_one(rt);
+    codes_of_two(rt);
+    codes_around_another(rt);
+    pieces_of_all_codes(rt);
+    million_turnover(rt);
+    counts_of_the_last(rt);
+    bounds_beside_counts_past(rt);
 }
 
-pub fn codes_given() {
-    orders_beside_counts_past();
-    refusals_beside_counts_past();
-    used_up();
-    others_enter();
-    last_code();
-    last_code_dropped();
-    million_arrivals();
-    everybody();
-    older();
-    cancelled();
-    another_code();
+pub fn codes_given(rt: &impl Print) {
+    orders_beside_counts_past(rt);
+    refusals_beside_counts_past(rt);
+    used_up(rt);
+    others_enter(rt);
+    last_code(rt);
+    last_code_dropped(rt);
+    million_arrivals(rt);
+    everybody(rt);
+    older(rt);
+    cancelled(rt);
+    another_code(rt);
 }
