@@ -7,7 +7,7 @@ FIRST ?= 1
 COUNT ?= 6000
 
 # What a library is built from: it is built again where one of these is newer.
-SOURCES := crates.txt $(shell find crates -type f)
+SOURCES := crates.txt $(shell find crates -name out -prune -o -type f -print)
 
 MODEL = cargo run --quiet --release --manifest-path tests/model/Cargo.toml --
 
@@ -24,14 +24,14 @@ run: beamgantry
 
 # Proves what the program needs, where that is not done yet, and builds it; the same for the library.
 beamgantry:
-	@scripts/prove.sh check beamgantry
+	@scripts/prove.sh program beamgantry
 
 library: target/staticlib/libexports.a
 
 script_library: target/staticlib/libscript.a
 
 target/staticlib/lib%.a: $(SOURCES)
-	@scripts/prove.sh staticlib $*
+	@scripts/prove.sh library $*
 
 compare: library script_library
 	@$(MODEL) compare $(FIRST) $(COUNT)
@@ -41,7 +41,7 @@ program: beamgantry library script_library
 	@$(MODEL) program target/bin/beamgantry 1 300
 
 replay_program:
-	@scripts/prove.sh check replay
+	@scripts/prove.sh program replay
 
 # Scripts: one from a file; library, program and model on generated ones.
 replay: replay_program
