@@ -1,75 +1,56 @@
--- Lots wanted and offered at a price, added up from the ladder one order at a time: one argument for both sides.
-use Prim.Native.Nat.{ℕ, ◌+◌, ◌*◌, ◌-◌, ◌≤◌, ◌<◌, min}
-use native.Mathlib.Omega.{arith}
-use mathlib.Core.Path.{◌≡◌, refl, ap, sym, ◌∙◌}
-use mathlib.Core.List.{List}
-use mathlib.Core.Bool.{cond}
+-- Lots wanted and offered at a price, added up from the ladder one rung at a time: one argument for both sides.
+use Rattle.std.proofs.Common.{ℕ, ◌+◌, ◌*◌, ◌<◌, ◌≤◌, ◌≡◌, List, [], ◌∷◌, take, length, get_or, Bool, true, false, cond, arith, refl, ap, ◌∙◌}
+use Rattle.std.proofs.lemmas.List.{take_more}
 use Rattle.market.specs.declared.Kind.TheVariants.{Kept}
-use Rattle.market.specs.declared.Order.{Order}
 use Rattle.market.specs.declared.Side.{Side}
-use Rattle.market.specs.declared.Side.TheVariants.{Buy, Sell}
-use Rattle.market.specs.Limits.{max_lots, max_waiting}
-use Rattle.market.specs.Day.{order_at}
-use Rattle.market.specs.View.{first_orders}
-use Rattle.market.specs.Matching.{fitting, fitting_lots, reaches}
-use Rattle.market.specs.Pairing.{counterparty}
-use Rattle.market.specs.Auction.{gap, lots_offered, lots_wanted, price_on, volume}
-use Rattle.matching.proofs.First.{fitting_few, fitting_next}
-use Rattle.auction.specs.declared.Level.{Level}
+use Rattle.market.specs.declared.Side.TheVariants.{Buy}
+use Rattle.market.specs.Limits.{max_lots}
+use Rattle.market.specs.Tests.{◌and◌, sum_of}
+use Rattle.market.specs.Matching.{opposite, reaches}
+use Rattle.market.proofs.Lists.{all_at, sum_append}
 use Rattle.auction.specs.declared.Rung.{Rung}
-use Rattle.auction.specs.Ladder.{Shows, level_at, lots_for, rung_at, rung_of}
-use Rattle.auction.proofs.Prices.{lots_at_lem}
+use Rattle.auction.specs.Ladder.{FewRungs, lots_from, lots_on}
 
--- the lots of a rung that an order of this side meets
-abbrev pub rung_lots : Side → Rung → ℕ
-rung_lots Buy r = r.sold
-rung_lots Sell r = r.bought
+-- what stands past the rungs
+abbrev pub blank : Rung
+blank = record { price = 0; side = Buy; lots = 0 }
 
--- those of them that it meets at price p
-abbrev pub lots_from : Side → ℕ → Rung → ℕ
-lots_from x p r = cond (reaches x (Kept p) (Kept r.price)) (rung_lots x r) 0
-
-rung_lots_lem : (x : Side) (s p : ℕ) (o : Order) → lots_from x p (rung_of s o) ≡ fitting_lots (counterparty x s (Kept p)) o
-rung_lots_lem x s p o = own x ∙ sym (lots_at_lem x s p o)
-  where
-    own : (x : Side)
-        → lots_from x p (rung_of s o) ≡ cond (reaches x (Kept p) (Kept (price_on s o))) (lots_for x s o) 0
-    own Buy = refl
-    own Sell = refl
-
--- sum is what an order of side x at price p meets in the first i orders, at most 10,000 lots each
-pub record Counted (x : Side) (w : List Order) (s p sum i : ℕ) : Type 0 where
+-- sum is what an order of side x at price p meets in the first i rungs, at most 10,000 lots each
+pub record Counted (x : Side) (p : ℕ) (l : List Rung) (i sum : ℕ) : Type 0 where
   pub few : sum ≤ max_lots * i
-  pub sums : sum ≡ fitting (counterparty x s (Kept p)) (first_orders i w)
+  pub sums : sum ≡ lots_on x p (take i l)
 
-pub counted_none : {x : Side} {w : List Order} {s p : ℕ} → Counted x w s p 0 0
-unfolding fitting
+pub counted_none : {x : Side} {p : ℕ} {l : List Rung} → Counted x p l 0 0
+unfolding lots_on
 counted_none = record { few = omega arith; sums = refl }
 
-module _ {x : Side} {w : List Order} {s p sum i n count : ℕ} {l : List ℕ} (c : Counted x w s p sum i)
-    (h : Shows l count w s) (k : i < count) (e : n ≡ lots_from x p (rung_at l i)) where
-  pub counted_next : Counted x w s p (sum + n) (i + 1)
-  counted_next =
-      let q = counterparty x s (Kept p) in
-      let own = e ∙ ap (lots_from x p) (h.rungs.each i k) ∙ rung_lots_lem x s p (order_at w i) in
-      record {
-        few = omega (arith, c.few, own, fitting_few q count w i k h.few.lots);
-        sums = omega (arith, c.sums, own, fitting_next q i w);
-      }
+module _ {x : Side} {p : ℕ} {l : List Rung} {i sum : ℕ} (k : Counted x p l i sum) where
+  one_more : i < length l → lots_on x p (take (i + 1) l) ≡ lots_on x p (take i l) + lots_from x p (get_or l i blank)
+  unfolding lots_on
+  one_more h =
+      ap (sum_of (lots_from x p)) (take_more l i blank h)
+      ∙ (let a = sum_append (lots_from x p) (take i l) (get_or l i blank ∷ []) in omega arith)
 
-  -- the sum stays small
-  pub counted_fits : sum + n ≤ max_lots * max_waiting
-  counted_fits = omega (arith, counted_next.few, h.few.room)
+  -- the rung is of the other side
+  pub counted_met : {n next : ℕ} → FewRungs l → i < length l → opposite x (get_or l i blank).side ≡ true
+      → n ≡ cond (reaches x (Kept p) (Kept (get_or l i blank).price)) (get_or l i blank).lots 0 → next ≡ sum + n
+      → Counted x p l (i + 1) next
+  unfolding ◌and◌
+  counted_met {n} {next} few h y own e =
+      let r = get_or l i blank in
+      let same : lots_from x p r ≡ n = rw (y, own) in
+      let top = all_at (λ (r : Rung). r.lots ≤ max_lots) blank l i few.lots h in
+      let low = at_most (reaches x (Kept p) (Kept r.price)) r.lots top in
+      record { few = omega (arith, k.few, low); sums = omega (arith, k.sums, one_more h) }
+    where
+      at_most : (b : Bool) (m : ℕ) → m ≤ max_lots → cond b m 0 ≤ max_lots
+      at_most true m h = h
+      at_most false m h = omega arith
 
--- with all orders passed, the two sums make a level
-pub level_counted : {w : List Order} {s p x y i count m g : ℕ} → Counted Sell w s p x i → Counted Buy w s p y i
-    → i ≡ count → m ≡ min x y → g ≡ (x - y) + (y - x)
-    → ◌≡◌ {A = Level} (record { price = p; volume = m; gap = g }) (level_at (first_orders count w) s p)
-unfolding volume gap lots_wanted lots_offered
-level_counted {w} {s} {p} {x} {y} {i} {count} {m} {g} a b e em eg =
-    let v = first_orders count w in
-    let wanted : x ≡ lots_wanted v s p = a.sums ∙ ap (λ (n : ℕ). lots_wanted (first_orders n w) s p) e in
-    let offered : y ≡ lots_offered v s p = b.sums ∙ ap (λ (n : ℕ). lots_offered (first_orders n w) s p) e in
-    let lots : m ≡ volume v s p = omega arith in
-    let rest : g ≡ gap v s p = omega arith in
-    λ i. record { price = p; volume = lots i; gap = rest i }
+  -- it is of the same side
+  pub counted_unmet : {next : ℕ} → i < length l → opposite x (get_or l i blank).side ≡ false → next ≡ sum
+      → Counted x p l (i + 1) next
+  unfolding ◌and◌
+  counted_unmet h y e =
+      let none : lots_from x p (get_or l i blank) ≡ 0 = rw y in
+      record { few = omega (arith, k.few); sums = omega (arith, k.sums, one_more h) }

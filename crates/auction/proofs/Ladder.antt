@@ -1,96 +1,81 @@
--- The ladder: one order more is laid out on it, and its lots are added up.
-use Prim.Native.Nat.{ℕ, ◌+◌, ◌*◌, ◌≤◌, ◌<◌}
-use native.Mathlib.Omega.{arith}
-use mathlib.Core.Path.{◌≡◌, refl, sym, subst, ◌∙◌}
-use mathlib.Core.List.{List}
-use mathlib.Core.Bool.{Bool, true, false}
-use lib.ListN.{length, get_or, set, length-set}
-use lib.Seq.{get_or-set_same, get_or-set_other}
-use borrow.Author.Tests.{eqb-false, eqb-true}
+-- The ladder: the rungs of one order more, how few they are, and that lots and prices on it are those of the orders.
+use Rattle.std.proofs.Common.{ℕ, ◌+◌, ◌<◌, ◌≤◌, ◌≡◌, List, [], ◌∷◌, ◌++◌, take, set, length, Bool, true, false, cond, Option, Some, None, arith, refl, ap, sym, ◌∙◌, append-nil}
+use Rattle.std.specs.List.{cons_option}
+use Rattle.std.proofs.Math.Numerals.{add-one}
+use Rattle.std.proofs.Math.Seq.{take-suc-set}
+use Rattle.std.proofs.lemmas.List.{take_more}
+use Rattle.std.proofs.lemmas.List.Elements.{filter_map-append}
+use Rattle.market.specs.declared.Kind.{Kind}
+use Rattle.market.specs.declared.Kind.TheVariants as kind
 use Rattle.market.specs.declared.Order.{Order}
-use Rattle.market.specs.Limits.{max_waiting}
-use Rattle.market.specs.Tests.{◌=?◌}
-use Rattle.market.specs.Day.{order_at}
-use Rattle.market.specs.View.{first_orders}
+use Rattle.market.specs.declared.Side.{Side}
+use Rattle.market.specs.Limits.{max_lots}
+use Rattle.market.specs.Tests.{◌=?◌, ◌and◌, sum_of}
+use Rattle.market.specs.Day.{no_order, order_at}
+use Rattle.market.specs.Matching.{fits, fitting, opposite, reaches}
+use Rattle.market.specs.Pairing.{counterparty}
+use Rattle.market.proofs.Lists.{All}
 use Rattle.matching.specs.Orders.{FewLots}
 use Rattle.auction.specs.declared.Rung.{Rung}
-use Rattle.auction.specs.Ladder.{Rungs, Shows, ladder_numbers, numbers_per_rung, rung_at, rung_of}
+use Rattle.auction.specs.Ladder.{FewRungs, lots_from, lots_on, rung_of, rung_with, rungs_of}
 
--- the first i orders of w, out of `count`, stand on the ladder l
-pub record Laying (l : List ℕ) (count : ℕ) (w : List Order) (s i : ℕ) : Type 0 where
-  pub passed : i ≤ count
-  pub long : length l ≡ ladder_numbers
-  pub rungs : Rungs l i w s
+-- one order more
+module _ (s : ℕ) (w : List Order) (i n : ℕ) (l : List Rung) (h : i < length w) (laid : take n l ≡ rungs_of s (take i w)) where
+  more : {r : Option Rung} → r ≡ rung_of s (order_at w i)
+      → take n l ++ cons_option r [] ≡ rungs_of s (take (i + 1) w)
+  more {r} e =
+      ap (λ (m : List Rung). m ++ cons_option r []) laid
+      ∙ ap (λ (o : Option Rung). rungs_of s (take i w) ++ cons_option o []) e
+      ∙ sym (ap (rungs_of s) (take_more w i no_order h) ∙ filter_map-append (rung_of s) (take i w) (order_at w i ∷ []))
 
-pub laying_starts : {l : List ℕ} {count : ℕ} {w : List Order} {s : ℕ} → length l ≡ ladder_numbers
-    → Laying l count w s 0
-laying_starts h = record { passed = omega arith; long = h; rungs = record { each = λ i l. absurd (omega arith) } }
+  -- which takes part, or doesn't
+  pub laid_next : {r : Rung} → n < length l → Some r ≡ rung_of s (order_at w i)
+      → take (n + 1) (set l n r) ≡ rungs_of s (take (i + 1) w)
+  laid_next {r} k e = ap (λ (m : ℕ). take m (set l n r)) (add-one n) ∙ take-suc-set l n r k ∙ more e
 
--- the three numbers of a rung are written at place n
-module _ (l : List ℕ) (n : ℕ) (r : Rung) where
-  abbrev one : List ℕ
-  one = set l (numbers_per_rung * n) r.price
+  pub laid_same : None ≡ rung_of s (order_at w i) → take n l ≡ rungs_of s (take (i + 1) w)
+  laid_same e = sym (append-nil (take n l)) ∙ more e
 
-  abbrev two : List ℕ
-  two = set one (numbers_per_rung * n + 1) r.bought
+-- the rungs are few, as their orders are
+few_rungs : (s : ℕ) (w : List Order) → length (rungs_of s w) ≤ length w
+few_rungs s [] = omega arith
+few_rungs s (o ∷ w) = go (rung_of s o) (few_rungs s w)
+  where
+    go : (r : Option Rung) → length (rungs_of s w) ≤ length w
+        → length (cons_option r (rungs_of s w)) ≤ length (o ∷ w)
+    go None again = omega arith
+    go (Some r) again = omega arith
 
-  abbrev with_rung : List ℕ
-  with_rung = set two (numbers_per_rung * n + 2) r.sold
+few_lots : (s : ℕ) (w : List Order) → All (λ o. o.lots ≤ max_lots) w → All (λ r. r.lots ≤ max_lots) (rungs_of s w)
+few_lots s [] a = tt
+few_lots s (o ∷ w) a = go (s =? o.security) o.kind (few_lots s w a.1)
+  where
+    go : (b : Bool) (k : Kind) → All (λ r. r.lots ≤ max_lots) (rungs_of s w)
+        → All (λ r. r.lots ≤ max_lots) (cons_option (cond b (rung_with k o.side o.lots) None) (rungs_of s w))
+    go true (kind.Kept p) again = (a.0, again)
+    go true kind.Closing again = again
+    go true (kind.Offer rate term p) again = again
+    go false k again = again
 
-  long_two : length two ≡ length l
-  long_two = length-set one (numbers_per_rung * n + 1) r.bought ∙ length-set l (numbers_per_rung * n) r.price
+pub rungs_few : (s : ℕ) (w : List Order) {l : List Rung} → FewLots w → l ≡ rungs_of s w → FewRungs l
+rungs_few s w f e =
+    rw e (record { room = omega (arith, few_rungs s w, f.room); lots = few_lots s w f.lots })
 
-  rung_same : numbers_per_rung * n + 2 < length l → rung_at with_rung n ≡ r
-  rung_same h =
-      let a : get_or with_rung (numbers_per_rung * n) 0 ≡ r.price =
-      get_or-set_other two (numbers_per_rung * n + 2) (numbers_per_rung * n) r.sold 0 (λ e. omega arith)
-      ∙ get_or-set_other one (numbers_per_rung * n + 1) (numbers_per_rung * n) r.bought 0 (λ e. omega arith)
-      ∙ get_or-set_same l (numbers_per_rung * n) r.price 0 (omega arith) in
-      let b : get_or with_rung (numbers_per_rung * n + 1) 0 ≡ r.bought =
-      get_or-set_other two (numbers_per_rung * n + 2) (numbers_per_rung * n + 1) r.sold 0 (λ e. omega arith)
-      ∙ get_or-set_same one (numbers_per_rung * n + 1) r.bought 0
-      (omega (arith, length-set l (numbers_per_rung * n) r.price)) in
-      let c : get_or with_rung (numbers_per_rung * n + 2) 0 ≡ r.sold =
-      get_or-set_same two (numbers_per_rung * n + 2) r.sold 0 (omega (arith, long_two)) in
-      λ i. record { price = a i; bought = b i; sold = c i }
+-- the lots of a rung are those that its order brings
+pub lots_same : (x : Side) (p s : ℕ) (w : List Order)
+    → lots_on x p (rungs_of s w) ≡ fitting (counterparty x s (kind.Kept p)) w
+unfolding lots_on fitting fits ◌and◌
+lots_same x p s [] = refl
+lots_same x p s (o ∷ w) = go (s =? o.security) o.kind (lots_same x p s w)
+  where
+    none : (b : Bool) → ◌≡◌ {A = ℕ} (cond (b and false) o.lots 0) 0
+    none true = refl
+    none false = refl
 
-  rung_other : (j : ℕ) → j < n → rung_at with_rung j ≡ rung_at l j
-  rung_other j k = λ i. record {
-    price = at (numbers_per_rung * j) (omega arith) i;
-    bought = at (numbers_per_rung * j + 1) (omega arith) i;
-    sold = at (numbers_per_rung * j + 2) (omega arith) i;
-  }
-    where
-      at : (k : ℕ) → k < numbers_per_rung * n → get_or with_rung k 0 ≡ get_or l k 0
-      at k g =
-          get_or-set_other two (numbers_per_rung * n + 2) k r.sold 0 (λ e. omega arith)
-          ∙ get_or-set_other one (numbers_per_rung * n + 1) k r.bought 0 (λ e. omega arith)
-          ∙ get_or-set_other l (numbers_per_rung * n) k r.price 0 (λ e. omega arith)
-
-  rungs_next : {w : List Order} {s : ℕ} → numbers_per_rung * n + 2 < length l → Rungs l n w s
-      → r ≡ rung_of s (order_at w n) → Rungs with_rung (n + 1) w s
-  rungs_next {w} {s} h a e = record { each = λ i k. go i k (i =? n) refl }
-    where
-      go : (i : ℕ) → i < n + 1 → (k : Bool) → (i =? n) ≡ k → rung_at with_rung i ≡ rung_of s (order_at w i)
-      go i g true q =
-          subst (λ (j : ℕ). rung_at with_rung j ≡ rung_of s (order_at w j)) (sym (eqb-true i n q)) (rung_same h ∙ e)
-      go i g false q =
-          let ne = eqb-false i n q in
-          rung_other i (omega arith) ∙ a.each i (omega arith)
-
-module _ {l : List ℕ} {count : ℕ} {w : List Order} {s i : ℕ} (h : Laying l count w s i) where
-  pub laying_next : (r : Rung) → count ≤ max_waiting → i < count → r ≡ rung_of s (order_at w i)
-      → Laying (with_rung l i r) count w s (i + 1)
-  laying_next r few k e =
-      let long : length (with_rung l i r) ≡ length l =
-      length-set (two l i r) (numbers_per_rung * i + 2) r.sold ∙ long_two l i r in
-      record {
-        passed = omega arith;
-        long = long ∙ h.long;
-        rungs = rungs_next l i r (omega (arith, h.long)) h.rungs e;
-      }
-
-  pub laying_ends : count ≤ i → FewLots count (first_orders count w) → Shows l count w s
-  laying_ends k few =
-      let same : i ≡ count = omega (arith, h.passed) in
-      record { few = few; rungs = subst (λ (n : ℕ). Rungs l n w s) same h.rungs }
+    go : (b : Bool) (k : Kind) → lots_on x p (rungs_of s w) ≡ fitting (counterparty x s (kind.Kept p)) w
+        → sum_of (lots_from x p) (cons_option (cond b (rung_with k o.side o.lots) None) (rungs_of s w))
+        ≡ cond (b and opposite x o.side and reaches x (kind.Kept p) k) o.lots 0 + fitting (counterparty x s (kind.Kept p)) w
+    go true (kind.Kept q) again = omega (arith, again)
+    go true kind.Closing again = omega (arith, again, none (opposite x o.side))
+    go true (kind.Offer rate term q) again = omega (arith, again, none (opposite x o.side))
+    go false k again = omega (arith, again)

@@ -1,108 +1,112 @@
--- The leading price, one order at a time.
-use Prim.Native.Nat.{ℕ, ◌+◌, ◌≤◌, ◌<◌}
-use native.Mathlib.Omega.{arith}
-use mathlib.Core.Path.{◌≡◌, refl, ap, ap₂, sym, ◌∙◌}
-use mathlib.Core.List.{List, [], ◌∷◌, ◌++◌}
-use mathlib.Core.Bool.{Bool, true, false, cond}
-use borrow.Author.Tests.{le-ltb, lt-ltb}
+-- The leading price, one rung at a time.
+use Rattle.std.proofs.Common.{ℕ, ◌+◌, ◌<◌, ◌≤◌, ◌≡◌, List, [], ◌∷◌, ◌++◌, take, length, get_or, map, Bool, true, false, cond, None, arith, refl, ap, ap₂, subst, sym, take_all, ◌∙◌}
+use Rattle.std.specs.List.{cons_option}
+use Rattle.std.proofs.lemmas.List.{map-append, take_more}
+use borrow.Author.Tests.{le-ltb, lt-ltb, ltb-false}
+use Rattle.market.specs.declared.Kind.{Kind}
+use Rattle.market.specs.declared.Kind.TheVariants as kind
 use Rattle.market.specs.declared.Order.{Order}
-use Rattle.market.specs.Tests.{◌<?◌}
-use Rattle.market.specs.Day.{order_at}
-use Rattle.market.specs.View.{first_orders}
-use Rattle.market.specs.Auction.{auction_price, leading, precedes, price_on, volume, written_prices}
-use Rattle.matching.proofs.First.{first_next}
+use Rattle.market.specs.declared.Side.TheVariants.{Buy, Sell}
+use Rattle.market.specs.Tests.{◌<?◌, ◌=?◌}
+use Rattle.market.specs.Needs.{kept_price}
+use Rattle.market.specs.Auction.{auction_price, gap, leading, lots_offered, lots_wanted, precedes, price_on, volume, written_prices}
 use Rattle.auction.specs.declared.Level.{Level}
-use Rattle.auction.specs.Ladder.{ahead, level_at}
-use Rattle.auction.proofs.Ties.{lead_next}
+use Rattle.auction.specs.declared.Rung.{Rung}
+use Rattle.auction.specs.Laws.{Behind}
+use Rattle.auction.specs.Ladder.{ahead, level_of, rung_with, rungs_of}
+use Rattle.auction.proofs.Counting.{blank}
+use Rattle.auction.proofs.Ladder.{lots_same}
+use Rattle.auction.proofs.Ties.{behind_self, behind_stays, behind_trans, first_two, lead_next}
 
--- the price of one order more stands behind the others
-written_later : (s : ℕ) (v : List Order) (o : Order)
-    → written_prices s (v ++ (o ∷ []))
-    ≡ cond (0 <? price_on s o) (written_prices s v ++ (price_on s o ∷ [])) (written_prices s v)
-unfolding written_prices
-written_later s [] o = refl
-written_later s (x ∷ v) o = rw (written_later s v o) (go (0 <? price_on s x) (0 <? price_on s o))
-  where
-    go : (a b : Bool) → let l : List ℕ = written_prices s v in
-        cond a (price_on s x ∷ cond b (l ++ (price_on s o ∷ [])) l) (cond b (l ++ (price_on s o ∷ [])) l)
-        ≡ cond b (cond a (price_on s x ∷ l) l ++ (price_on s o ∷ [])) (cond a (price_on s x ∷ l) l)
-    go true true = refl
-    go true false = refl
-    go false true = refl
-    go false false = refl
+-- the prices of rungs
+abbrev prices : List Rung → List ℕ
+prices l = map (λ r. r.price) l
 
--- the leading price of those written on the first i orders of the array, out of `count` that wait
-abbrev leading_of : List Order → ℕ → ℕ → ℕ → ℕ
-leading_of w count s i = leading (first_orders count w) s 0 (written_prices s (first_orders i w))
+-- what a price comes to among orders, and on their ladder
+abbrev pub level_at : List Order → ℕ → ℕ → Level
+level_at w s p = record { price = p; volume = volume w s p; gap = gap w s p }
+
+level_same : (w : List Order) (s p : ℕ) → level_of (rungs_of s w) p ≡ level_at w s p
+unfolding volume gap lots_wanted lots_offered
+level_same w s p = rw (lots_same Sell p s w, lots_same Buy p s w)
 
 -- what holds between two steps
-pub record Led (w : List Order) (count s : ℕ) (lead : Level) (i : ℕ) : Type 0 where
-  pub passed : i ≤ count
-  pub leads : lead ≡ level_at (first_orders count w) s (leading_of w count s i)
+pub record Led (w : List Order) (s : ℕ) (l : List Rung) (i : ℕ) (lead : Level) : Type 0 where
+  pub laid : l ≡ rungs_of s w
+  pub leads : lead ≡ level_at w s (leading w s 0 (prices (take i l)))
 
-pub led_starts : (w : List Order) (count s : ℕ) {lead : Level} → lead ≡ level_at (first_orders count w) s 0
-    → Led w count s lead 0
-unfolding leading written_prices
-led_starts w count s e = record { passed = omega arith; leads = e }
+module _ (w : List Order) (s : ℕ) where
+  pub led_starts : {l : List Rung} {lead : Level} → l ≡ rungs_of s w → lead ≡ level_of l 0 → Led w s l 0 lead
+  unfolding leading
+  led_starts {l} e n =
+      record { laid = e; leads = n ∙ ap (λ (m : List Rung). level_of m 0) e ∙ level_same w s 0 }
 
-module _ {w : List Order} {count s : ℕ} {lead : Level} {i : ℕ} (h : Led w count s lead i) where
-  -- the order at place i writes no price
-  pub led_same : {x : ℕ} {next : Level} → i < count → x ≡ price_on s (order_at w i) → x ≤ 0 → next ≡ lead
-      → Led w count s next (i + 1)
-  led_same l e z q = record {
-    passed = omega arith;
-    leads =
-        q ∙ h.leads
-        ∙ ap (λ (m : List ℕ). level_at (first_orders count w) s (leading (first_orders count w) s 0 m)) (sym none);
-  }
-    where
-      none : written_prices s (first_orders (i + 1) w) ≡ written_prices s (first_orders i w)
-      none =
-          ap (written_prices s) (first_next i w) ∙ written_later s (first_orders i w) (order_at w i)
-          ∙ rw (le-ltb 0 (price_on s (order_at w i)) (omega arith))
-
-  -- it writes x
-  pub led_next : {x : ℕ} {level next : Level} → i < count → x ≡ price_on s (order_at w i) → 0 < x
-      → level ≡ level_at (first_orders count w) s x → next ≡ cond (ahead level lead) level lead
-      → Led w count s next (i + 1)
+  pub led_next : {l : List Rung} {i : ℕ} {lead level next : Level} → Led w s l i lead → i < length l
+      → level ≡ level_of l (get_or l i blank).price → next ≡ cond (ahead level lead) level lead
+      → Led w s l (i + 1) next
   unfolding ahead precedes
-  led_next {x} {level} {next} l e z el en = record {
-    passed = omega arith;
+  led_next {l} {i} {lead} {level} {next} h k el en = record {
+    laid = h.laid;
     leads =
-        en ∙ ap₂ (λ (a b : Level). cond (ahead a b) a b) el h.leads
-        ∙ choice (precedes (first_orders count w) s x (leading_of w count s i))
-        ∙ ap (level_at (first_orders count w) s)
-        (sym (lead_next (first_orders count w) s (written_prices s (first_orders i w)) 0 x)
-        ∙ ap (leading (first_orders count w) s 0) (sym one));
+        en
+        ∙ ap₂ (λ (a b : Level). cond (ahead a b) a b) (el ∙ ap (λ (m : List Rung). level_of m p) h.laid ∙ level_same w s p) h.leads
+        ∙ choice (precedes w s p q)
+        ∙ ap (level_at w s) (sym (ap (leading w s 0) one ∙ lead_next w s (prices (take i l)) 0 p));
   }
     where
-      one : written_prices s (first_orders (i + 1) w) ≡ written_prices s (first_orders i w) ++ (x ∷ [])
-      one =
-          ap (written_prices s) (first_next i w) ∙ written_later s (first_orders i w) (order_at w i)
-          ∙ rw (← e) (rw (lt-ltb 0 x z))
+      p : ℕ
+      p = (get_or l i blank).price
 
-      choice : (k : Bool) → let q : ℕ = leading_of w count s i in
-          cond k (level_at (first_orders count w) s x) (level_at (first_orders count w) s q)
-          ≡ level_at (first_orders count w) s (cond k x q)
+      q : ℕ
+      q = leading w s 0 (prices (take i l))
+
+      one : prices (take (i + 1) l) ≡ prices (take i l) ++ (p ∷ [])
+      one = ap prices (take_more l i blank k) ∙ map-append (λ (r : Rung). r.price) (take i l) (get_or l i blank ∷ [])
+
+      choice : (b : Bool) → cond b (level_at w s p) (level_at w s q) ≡ level_at w s (cond b p q)
       choice true = refl
       choice false = refl
 
-  -- all orders are passed
-  ends : count ≤ i → lead ≡ level_at (first_orders count w) s (leading_of w count s count)
-  ends l =
-      let same : i ≡ count = omega (arith, h.passed) in
-      h.leads ∙ ap (λ (n : ℕ). level_at (first_orders count w) s (leading_of w count s n)) same
+  -- to try 0 where no price is written changes nothing: it doesn't go before what was tried first
+  skips : (v : List Order) (q : ℕ) → Behind w s 0 q → leading w s q (prices (rungs_of s v)) ≡ leading w s q (written_prices s v)
+  unfolding leading written_prices price_on
+  skips [] q h = refl
+  skips (o ∷ v) q h = go (s =? o.security) o.kind (skips v)
+    where
+      go : (b : Bool) (k : Kind)
+          → ((q : ℕ) → Behind w s 0 q → leading w s q (prices (rungs_of s v)) ≡ leading w s q (written_prices s v))
+          → leading w s q (prices (cons_option (cond b (rung_with k o.side o.lots) None) (rungs_of s v)))
+          ≡ leading w s q (cond (0 <? cond b (kept_price k) 0) (cond b (kept_price k) 0 ∷ written_prices s v) (written_prices s v))
+      go true (kind.Kept p) again = tried (0 <? p) refl
+        where
+          tried : (a : Bool) → (0 <? p) ≡ a
+              → leading w s q (p ∷ prices (rungs_of s v)) ≡ leading w s q (cond a (p ∷ written_prices s v) (written_prices s v))
+          tried true e = again _ (behind_trans w s _ _ _ h (first_two w s p q).1)
+          tried false e =
+              let zero : 0 ≡ p = omega (arith, ltb-false 0 p e) in
+              ap (λ (m : ℕ). leading w s m (prices (rungs_of s v)))
+              (behind_stays w s p q (subst (λ (m : ℕ). Behind w s m q) zero h))
+              ∙ again q h
+      go true kind.Closing again = again q h
+      go true (kind.Offer rate term p) again = again q h
+      go false k again = again q h
 
-  pub led_trades : count ≤ i → 0 < lead.volume → lead.price ≡ auction_price (first_orders count w) s
-  unfolding auction_price
-  led_trades l z =
-      let e = ends l in
-      let v = ap (λ (a : Level). a.volume) e in
-      ap (λ (a : Level). a.price) e
-      ∙ rw (lt-ltb 0 (volume (first_orders count w) s (leading_of w count s count)) (omega arith))
+  -- all rungs are passed
+  module _ {l : List Rung} {i : ℕ} {lead : Level} (h : Led w s l i lead) (over : length l ≤ i) where
+    ends : lead ≡ level_at w s (leading w s 0 (written_prices s w))
+    ends =
+        h.leads
+        ∙ ap (λ (m : List Rung). level_at w s (leading w s 0 (prices m))) (take_all i l over ∙ h.laid)
+        ∙ ap (level_at w s) (skips w 0 (behind_self w s 0))
 
-  pub led_none : count ≤ i → lead.volume ≤ 0 → 0 ≡ auction_price (first_orders count w) s
-  unfolding auction_price
-  led_none l z =
-      let v = ap (λ (a : Level). a.volume) (ends l) in
-      rw (le-ltb 0 (volume (first_orders count w) s (leading_of w count s count)) (omega arith))
+    pub led_trades : 0 < lead.volume → lead.price ≡ auction_price w s
+    unfolding auction_price
+    led_trades z =
+        let v = ap (λ (a : Level). a.volume) ends in
+        ap (λ (a : Level). a.price) ends ∙ rw (lt-ltb 0 (volume w s (leading w s 0 (written_prices s w))) (omega arith))
+
+    pub led_none : lead.volume ≤ 0 → 0 ≡ auction_price w s
+    unfolding auction_price
+    led_none z =
+        let v = ap (λ (a : Level). a.volume) ends in
+        rw (le-ltb 0 (volume w s (leading w s 0 (written_prices s w))) (omega arith))

@@ -3,6 +3,6 @@ pub mod Ties
 pub mod Most
 pub mod Auction
 pub mod Lots
-pub mod Ladder
 pub mod Counting
+pub mod Ladder
 pub mod Leading

@@ -15,8 +15,7 @@ use Rattle.market.specs.Pairing.{counterparty}
 use Rattle.market.specs.Auction.{lots_offered, lots_wanted, price_on, volume}
 use Rattle.market.proofs.Lists.{All}
 use Rattle.market.specs.Needs.{is_kept}
-use Rattle.auction.specs.Ladder.{lots_for}
-use Rattle.auction.proofs.Prices.{lots_at_lem, unpriced}
+use Rattle.auction.proofs.Prices.{lots_at_lem, lots_for, unpriced}
 
 -- at a price that reaches all that another reaches, no fewer lots fit
 module _ (x : Side) (s p q : ℕ)

@@ -13,13 +13,16 @@ use Rattle.market.specs.Matching.{fits, fitting_lots, opposite, price_of, reache
 use Rattle.market.specs.Pairing.{counterparty}
 use Rattle.market.specs.Auction.{price_on}
 use Rattle.market.specs.Needs.{is_kept, kept_price}
-use Rattle.auction.specs.Ladder.{lots_for}
 
--- any kind but the first is not kept, and has no price to meet others at
+-- any kind but the first is not kept, and has no price to meet others at; docs/PORT.md names it, so it stays
 pub not_kept : (k : Kind) → ((p : ℕ) → k ≡ kind.Kept p → ⊥) → (is_kept k ≡ false) × (kept_price k ≡ 0)
 not_kept (kind.Kept p) h = absurd (h p refl)
 not_kept kind.Closing h = (refl, refl)
 not_kept (kind.Offer rate term p) h = (refl, refl)
+
+-- the lots that an order of this side can meet in o: all of a kept one of security s and the other side, else 0
+unfoldable pub lots_for : Side → ℕ → Order → ℕ
+lots_for x s o = cond (s =? o.security and is_kept o.kind and opposite x o.side) o.lots 0
 
 -- an order writes its price, to buy or to sell, for its own security and for no other
 pub price_own : (s : ℕ) (o : Order) → s ≡ o.security → price_on s o ≡ price_of o

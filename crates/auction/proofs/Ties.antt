@@ -17,10 +17,10 @@ Judged w s p q true = Behind w s q p
 Judged w s p q false = Behind w s p q
 
 module _ (w : List Order) (s : ℕ) where
-  behind_self : (p : ℕ) → Behind w s p p
+  pub behind_self : (p : ℕ) → Behind w s p p
   behind_self p = record { lots = omega arith; gaps = λ e. omega arith; price = λ e f. omega arith }
 
-  behind_trans : (p q r : ℕ) → Behind w s p q → Behind w s q r → Behind w s p r
+  pub behind_trans : (p q r : ℕ) → Behind w s p q → Behind w s q r → Behind w s p r
   behind_trans p q r h k =
       let l = h.lots in
       let m = k.lots in
@@ -74,12 +74,23 @@ module _ (w : List Order) (s : ℕ) where
       go false e = by_lots (eqb-false (volume w s p) (volume w s q) e) (volume w s q <? volume w s p) refl
 
   -- the first of two prices
-  first_two : (p q : ℕ) → let r : ℕ = cond (precedes w s p q) p q in Behind w s p r × Behind w s q r
+  pub first_two : (p q : ℕ) → let r : ℕ = cond (precedes w s p q) p q in Behind w s p r × Behind w s q r
   first_two p q = go (precedes w s p q) (judged p q)
     where
       go : (k : Bool) → Judged w s p q k → Behind w s p (cond k p q) × Behind w s q (cond k p q)
       go true h = (behind_self p, h)
       go false h = (h, behind_self q)
+
+  -- a price behind the other leaves it
+  pub behind_stays : (p q : ℕ) → Behind w s p q → cond (precedes w s p q) p q ≡ q
+  behind_stays p q h = go (precedes w s p q) (judged p q)
+    where
+      go : (k : Bool) → Judged w s p q k → cond k p q ≡ q
+      go true j =
+          let v : volume w s p ≡ volume w s q = omega (arith, h.lots, j.lots) in
+          let g : gap w s p ≡ gap w s q = omega (arith, h.gaps v, j.gaps (sym v)) in
+          omega (arith, h.price v g, j.price (sym v) (sym g))
+      go false j = refl
 
   -- none of the prices goes before the leading one
   pub lead_first : (l : List ℕ) (q : ℕ) → Behind w s q (leading w s q l) × All (λ p. Behind w s p (leading w s q l)) l

@@ -1,64 +1,51 @@
 -- What the code lays out of each order, and what it reckons of a price; machinery of the contracts, not of the rules.
-use Rattle.std.specs.Prelude.{ℕ, ◌+◌, ◌*◌, ◌<◌, ◌≡◌, List, Bool, cond, get_or}
+use Rattle.std.specs.Prelude.{ℕ, ◌+◌, ◌-◌, ◌≤◌, List, Bool, cond, length, min, Option, Some, None, filter_map}
+use Rattle.market.specs.declared.Kind.{Kind}
+use Rattle.market.specs.declared.Kind.TheVariants.{Closing, Kept, Offer}
 use Rattle.market.specs.declared.Order.{Order}
 use Rattle.market.specs.declared.Side.{Side}
 use Rattle.market.specs.declared.Side.TheVariants.{Buy, Sell}
-use Rattle.market.specs.Limits.{max_waiting}
-use Rattle.market.specs.Tests.{◌<?◌, ◌=?◌, ◌and◌}
-use Rattle.market.specs.Day.{order_at}
-use Rattle.market.specs.View.{first_orders}
-use Rattle.market.specs.Matching.{opposite}
-use Rattle.market.specs.Auction.{gap, price_on, volume}
-use Rattle.market.specs.Needs.{is_kept}
-use Rattle.matching.specs.Orders.{FewLots}
+use Rattle.market.specs.Limits.{max_lots, max_waiting}
+use Rattle.market.specs.Tests.{◌<?◌, ◌=?◌, ◌and◌, sum_of}
+use Rattle.market.specs.Matching.{opposite, reaches}
+use Rattle.market.proofs.Lists.{All}
 use Rattle.auction.specs.declared.Level.{Level}
 use Rattle.auction.specs.declared.Rung.{Rung}
 
--- the lots that an order of this side can meet in o: all of a kept one of security s and the other side, else 0
-unfoldable pub lots_for : Side → ℕ → Order → ℕ
-lots_for x s o = cond (s =? o.security and is_kept o.kind and opposite x o.side) o.lots 0
+-- a kept order's rung
+abbrev pub rung_with : Kind → Side → ℕ → Option Rung
+rung_with (Kept p) x n = Some (record { price = p; side = x; lots = n })
+rung_with Closing x n = None
+rung_with (Offer rate term p) x n = None
 
--- what an order comes to in security s
-abbrev pub rung_of : ℕ → Order → Rung
-rung_of s o = record { price = price_on s o; bought = lots_for Sell s o; sold = lots_for Buy s o }
+-- what an order comes to in security s: a rung of a kept one of it, else none
+abbrev pub rung_of : ℕ → Order → Option Rung
+rung_of s o = cond (s =? o.security) (rung_with o.kind o.side o.lots) None
 
--- three numbers an order, for each that can wait
-abbrev pub numbers_per_rung : ℕ
-numbers_per_rung = 3
+-- the rungs of orders, in their order
+abbrev pub rungs_of : ℕ → List Order → List Rung
+rungs_of s w = filter_map (rung_of s) w
 
-abbrev pub ladder_numbers : ℕ
-ladder_numbers = numbers_per_rung * max_waiting
+-- few enough rungs with few enough lots that the lots can be added up
+pub record FewRungs (l : List Rung) : Type 0 where
+  pub room : length l ≤ max_waiting
+  pub lots : All (λ r. r.lots ≤ max_lots) l
 
--- the rung of the order at place i
-abbrev pub rung_at : List ℕ → ℕ → Rung
-rung_at l i = record {
-  price = get_or l (numbers_per_rung * i) 0;
-  bought = get_or l (numbers_per_rung * i + 1) 0;
-  sold = get_or l (numbers_per_rung * i + 2) 0;
+-- the lots of a rung that an order of this side meets at price p
+abbrev pub lots_from : Side → ℕ → Rung → ℕ
+lots_from x p r = cond (opposite x r.side and reaches x (Kept p) (Kept r.price)) r.lots 0
+
+-- of all rungs
+unfoldable pub lots_on : Side → ℕ → List Rung → ℕ
+lots_on x p l = sum_of (lots_from x p) l
+
+-- what a price comes to: a sell at it meets the lots wanted, a buy at it those offered
+abbrev pub level_of : List Rung → ℕ → Level
+level_of l p = record {
+  price = p;
+  volume = min (lots_on Sell p l) (lots_on Buy p l);
+  gap = (lots_on Sell p l - lots_on Buy p l) + (lots_on Buy p l - lots_on Sell p l);
 }
-
--- the ladder l shows what the first n orders of w come to in security s
-pub record Rungs (l : List ℕ) (n : ℕ) (w : List Order) (s : ℕ) : Type 0 where
-  pub each : (i : ℕ) → i < n → rung_at l i ≡ rung_of s (order_at w i)
-
--- it shows all that wait, few enough that their lots can be added up
-pub record Shows (l : List ℕ) (count : ℕ) (w : List Order) (s : ℕ) : Type 0 where
-  pub few : FewLots count (first_orders count w)
-  pub rungs : Rungs l count w s
-
--- there are such orders and such a security
-pub record Laid (l : List ℕ) (count : ℕ) : Type 0 where
-  pub orders : List Order
-  pub security : ℕ
-  pub shows : Shows l count orders security
-
--- what a price comes to
-abbrev pub level_at : List Order → ℕ → ℕ → Level
-level_at w s p = record { price = p; volume = volume w s p; gap = gap w s p }
-
--- of all such orders in all such securities
-abbrev pub Levels : List ℕ → ℕ → ℕ → Level → Type 0
-Levels l count p r = (w : List Order) (s : ℕ) → Shows l count w s → r ≡ level_at (first_orders count w) s p
 
 -- most lots, then the smaller gap, then the lower price: a goes before b
 unfoldable pub ahead : Level → Level → Bool

@@ -3,9 +3,10 @@ use Prim.Native.Nat.{ℕ, zero, suc}
 use mathlib.Core.Path.{◌≡◌, refl, ap, sym, ◌∙◌}
 use mathlib.Core.List.{List, []}
 use lib.ListN.{length}
-use Rattle.market.specs.declared.Carried.{Carried}
-use Rattle.market.specs.declared.OrderBook.{OrderBook}
-use Rattle.market.specs.declared.Phase.{Phase}
+use Rattle.market.specs.declared.Answer.{Answer}
+use Rattle.market.specs.declared.Floor.{Floor}
+use Rattle.market.specs.declared.Move.{Move}
+use Rattle.market.specs.declared.Move.TheVariants as moved
 use Rattle.market.specs.declared.Rules.{Rules}
 use Rattle.market.specs.declared.Session.{Session}
 use Rattle.market.specs.declared.Session.TheVariants as session
@@ -18,12 +19,19 @@ use Rattle.market.specs.Calls.{Call, cancel, closing_order}
 use Rattle.market.specs.Questions.{first_no, questions}
 use Rattle.market.specs.Entry.{placed}
 use Rattle.market.specs.Step.{all_questions, answer_by, effect, result, step}
-use Rattle.market.specs.Parts.{Carries, start_of}
+use Rattle.market.specs.Parts.{Carries, move_of, start_of}
 
 -- its questions ask for no list, and it makes no trade
 pub record Listless (c : Call) : Type 0 where
   pub asks : (d : Day) (n : ℕ) → questions d n c ≡ questions d 0 c
   pub writes : (d : Day) → (effect d c).trades ≡ []
+
+pub move_listless : (m : Move) → Listless (move_of m)
+unfolding questions effect
+move_listless (moved.IncreaseMoney p column amount) = record { asks = λ d n. refl; writes = λ d. refl }
+move_listless (moved.DecreaseMoney p column amount) = record { asks = λ d n. refl; writes = λ d. refl }
+move_listless (moved.IncreasePieces p column amount) = record { asks = λ d n. refl; writes = λ d. refl }
+move_listless (moved.DecreasePieces p column amount) = record { asks = λ d n. refl; writes = λ d. refl }
 
 pub cancel_listless : (p code : ℕ) → Listless (cancel p code)
 unfolding questions effect
@@ -59,12 +67,13 @@ module _ (c : Call) (free : Listless c) (d : Day) where
   unfolding step
   same_day_lem l = ap (λ (r : Result). r.day) (same_result (length l))
 
-pub any_list : (r : Rules) (x : Phase) (m k : List ℕ) (b : OrderBook) (l : List ℕ) (c : Call) → Listless c
-    → (m' k' : List ℕ) (o : Carried) → Carries r x m k b [] c m' k' [] o → Carries r x m k b l c m' k' l o
-any_list r x m k b l c free m' k' o h =
-    let d = day_of r x m k b in
+pub any_list : {r : Rules} {f f' : Floor} {c : Call} {a : Answer} (l : List ℕ) → Listless c → Carries r f [] c f' [] a
+    → Carries r f l c f' l a
+any_list {r} {f} {c = c} l free h =
+    let d = day_of r f in
     record {
       answer = h.answer ∙ sym (same_answer c free d l);
       day = h.day ∙ sym (same_day_lem c free d l);
       list = sym (same_list c free d l);
+      refusal = h.refusal;
     }

@@ -1,46 +1,34 @@
-// The one dispatch: a call is carried out on the parts of a sound day.
+// The one dispatch: a call is carried out on a lent floor of a sound day.
 #![tactic(auto)]
 
 ghost use Rattle.market.specs.Parts.{Carries, Ready, call_of};
 
 use linked::group;
-use market::{Call, Carried, OrderBook, Phase, Rules, Ticket};
+use market::{Answer, Call, Floor, Rules, Ticket};
 use orders::{cancel, order};
-use reserves::{answer_of, moved};
+use reserves::reserve;
 use session::{end, enter_closing_order, start};
 
 // A group's members stand beside the call. Trades stand from the start of the lent list on.
 pub fn carry_out(
-    b: OrderBook,
-    rules: Rules,
-    phase: Phase,
+    floor: &mut Floor,
+    rules: &Rules,
     call: Call,
-    members: [Ticket; 8],
-    money: &mut [u64; 544],
-    pieces: &mut [u64; 544],
+    members: &[Ticket; 8],
     trades: &mut [u64],
-) -> Carried
-    requires { Ready rules phase money.old pieces.old b }
-    ensures { Carries rules phase money.old pieces.old b trades.old (call_of call members) money.new pieces.new trades.new result }
+) -> Answer
+    requires { Ready rules.now floor.old }
+    ensures { Carries rules.now floor.old trades.old (call_of call members.now) floor.new trades.new result }
 {
     match call {
-        Call::Reserve(m) => {
-            let answer = answer_of(moved(rules, m, money, pieces));
-            Carried {
-                answer,
-                phase,
-                book: b,
-            }
-        }
-        Call::Order(p, ticket, force) => {
-            order(b, rules, phase, p, ticket, force, money, pieces, trades)
-        }
-        Call::Cancel(p, code) => cancel(b, rules, phase, p, code, money, pieces),
-        Call::Group(p, n) => group(b, rules, phase, p, n, members, money, pieces, trades),
-        Call::Start(session) => start(session, b, rules, phase, money, pieces),
+        Call::Reserve(m) => reserve(floor, rules, m),
+        Call::Order(p, ticket, force) => order(floor, rules, p, ticket, force, trades),
+        Call::Cancel(p, code) => cancel(floor, rules, p, code),
+        Call::Group(p, n) => group(floor, rules, p, n, members, trades),
+        Call::Start(session) => start(session, floor, rules),
         Call::ClosingOrder(p, side, s, lots) => {
-            enter_closing_order(b, rules, phase, p, side, s, lots, money, pieces)
+            enter_closing_order(floor, rules, p, side, s, lots)
         }
-        Call::End(session) => end(session, b, rules, phase, money, pieces, trades),
+        Call::End(session) => end(session, floor, rules, trades),
     }
 }

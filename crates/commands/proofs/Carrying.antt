@@ -1,24 +1,18 @@
--- From a call on parts to what its line does, and lines that make no call.
+-- From a call on a floor to what its line does, and lines that make no call.
 use Prim.Native.Nat.{ℕ, ◌+◌, ◌-◌, ◌≤◌, ◌<◌}
 use native.Mathlib.Omega.{arith}
 use mathlib.Core.Path.{◌≡◌, refl, sym, ap, subst, ◌∙◌}
-use mathlib.Core.List.{List, []}
+use mathlib.Core.List.{List}
 use mathlib.Core.Bool.{Bool, true, false}
 use lib.ListN.{length}
 use types.Run.{miss}
 use borrow.Author.Tests.{le-leb, le-ltb, leb-false, leb-true, lt-leb, lt-ltb, ltb-true}
-use Rattle.market.specs.declared.Access.{Access}
 use Rattle.market.specs.declared.Answer.{Answer}
 use Rattle.market.specs.declared.Answer.TheVariants.{Refused}
-use Rattle.market.specs.declared.Carried.{Carried}
-use Rattle.market.specs.declared.OrderBook.{OrderBook}
-use Rattle.market.specs.declared.Phase.{Phase}
+use Rattle.market.specs.declared.Floor.{Floor}
 use Rattle.market.specs.declared.Rules.{Rules}
-use Rattle.market.specs.declared.Side.{Side}
 use Rattle.market.specs.declared.Ticket.{Ticket}
-use Rattle.market.specs.declared.TimeInForce.{TimeInForce}
-use Rattle.market.specs.declared.Turnover.{Turnover}
-use Rattle.market.specs.Limits.{lent_at_least, max_lots, max_securities, max_trades}
+use Rattle.market.specs.Limits.{lent_at_least, max_trades}
 use Rattle.market.specs.Tests.{◌and◌, ◌≤?◌}
 use Rattle.market.specs.Day.{Day}
 use Rattle.market.specs.View.{Sized, day_of}
@@ -26,32 +20,24 @@ use Rattle.market.specs.Sound.{sound}
 use Rattle.market.specs.TradeList.{written}
 use Rattle.market.specs.Answers.{numbers_of, refused}
 use Rattle.market.specs.Calls.{Call}
-use Rattle.market.specs.Questions.{Question, closing_questions, entry_questions}
 use Rattle.market.specs.Step.{result, step}
 use Rattle.market.specs.Parts.{Carries, Ready}
-use Rattle.market.proofs.Logic.{and_true, within_high}
-use Rattle.market.proofs.Questions.{AllYes, all_yes, yes}
+use Rattle.market.proofs.Logic.{and_true}
 use Rattle.conservation.proofs.Counts.{result_counts}
 use Rattle.conservation.proofs.Demand.{sound_kept}
 use Rattle.heading.specs.Heading.{malformed}
 use Rattle.lines.specs.declared.Line.{Line}
 use Rattle.lines.specs.declared.Line.TheVariants as line
 use Rattle.reading.proofs.Tags.{OtherLine, call_tag, other_lines}
-use Rattle.codes.specs.Numbers.{Numberable}
-use Rattle.orders.specs.Entering.{EntryNo, Known}
-use Rattle.orders.proofs.Asking as orders
-use Rattle.session.specs.Asking.{Askable, ClosingNo}
-use Rattle.session.proofs.Asking as session
 use Rattle.commands.specs.Command.{Does, called, carried}
 use Rattle.commands.specs.Stand.{goes_on, room}
 
 -- a call that was carried out with a list of 1,088 numbers
-pub does_call : (r : Rules) (x : Phase) (m k : List ℕ) (b : OrderBook) (l : List ℕ) (c : Call) (m' k' l' : List ℕ)
-    (o : Carried) → Ready r x m k b → length l ≡ lent_at_least → Carries r x m k b l c m' k' l' o
-    → Does (called (day_of r x m k b) c) r l m' k' l' o
+pub does_call : (r : Rules) (f : Floor) (l : List ℕ) (c : Call) (f' : Floor) (l' : List ℕ) (a : Answer) → Ready r f
+    → length l ≡ lent_at_least → Carries r f l c f' l' a → Does (called (day_of r f) c) r l f' l' a
 unfolding step
-does_call r x m k b l c m' k' l' o ready n h =
-    let d = day_of r x m k b in
+does_call r f l c f' l' a ready n h =
+    let d = day_of r f in
     let kept = sound_kept d ready.sized ready.sound l c in
     let counts = result_counts d lent_at_least c in
     let answer = h.answer ∙ ap (λ (i : ℕ). (result d i c).answer) n in
@@ -67,10 +53,9 @@ does_call r x m k b l c m' k' l' o ready n h =
     }
 
 -- a line that makes no call
-pub does_wrong : (r : Rules) (x : Phase) (m k : List ℕ) (b : OrderBook) (l : List ℕ) → Ready r x m k b
-    → Does (refused (day_of r x m k b) malformed 0) r l m k l
-    (record { answer = Refused malformed 0; phase = x; book = b })
-does_wrong r x m k b l ready = record {
+pub does_wrong : (r : Rules) (f : Floor) (l : List ℕ) → Ready r f
+    → Does (refused (day_of r f) malformed 0) r l f l (Refused malformed 0)
+does_wrong r f l ready = record {
   answer = refl;
   day = refl;
   list = refl;
@@ -88,68 +73,6 @@ no_call d (line.Heading a b c) ms h = refl
 no_call d (line.Security a b c) ms h = refl
 no_call d (line.Member m) ms h = refl
 no_call d line.Malformed ms h = refl
-
--- an order book of which this turnover, count and codes are known
-abbrev book_with : List Turnover → ℕ → List ℕ → OrderBook
-book_with t count codes =
-    record { orders = []; count = count; codes = codes; turnover = t; filled = 0; left = 0; trades = 0; code = 0 }
-
--- an order whose questions 4 to 14 are answered "yes"
-module _ (r : Rules) (x : Phase) (t : List Turnover) (count : ℕ) (codes m k : List ℕ) (p : ℕ) (q : Ticket)
-    (a : Access) (f : TimeInForce) where
-  pub entry_none : {n : ℕ} → n ≤ 0 → EntryNo r x t count codes m k p q a f n → EntryNo r x t count codes m k p q a f 0
-  entry_none h asks = λ b e1 e2 e3. let e = asks b e1 e2 e3 in omega (arith, e, h)
-
-  abbrev entry_asked : List Question
-  entry_asked = entry_questions (day_of r x m k (book_with t count codes)) p q a f
-
-  entry_yes : EntryNo r x t count codes m k p q a f 0 → AllYes entry_asked
-  entry_yes asks = all_yes entry_asked tt (sym (asks (book_with t count codes) refl refl refl))
-
-  pub entry_makeable : Known r codes → EntryNo r x t count codes m k p q a f 0
-      → Numberable r.participants codes p × (q.lots ≤ max_lots)
-  entry_makeable known asks = (
-    orders.counted known (ltb-true p r.participants (yes 4 entry_asked (entry_yes asks))),
-    within_high 1 max_lots q.lots (yes 7 entry_asked (entry_yes asks)),
-  )
-
-  pub entry_listed : Known r codes → EntryNo r x t count codes m k p q a f 0 → q.security < max_securities
-  entry_listed known asks =
-      omega (
-        arith,
-        ltb-true q.security r.securities (yes 5 entry_asked (entry_yes asks)),
-        known.rules.securities,
-      )
-
--- a closing order whose questions are all answered "yes"
-module _ (r : Rules) (x : Phase) (t : List Turnover) (count : ℕ) (codes m k : List ℕ) (p : ℕ) (side : Side) (s n : ℕ) where
-  pub closing_none : {i : ℕ} → i ≤ 0 → ClosingNo r x t count codes m k p side s n i
-      → ClosingNo r x t count codes m k p side s n 0
-  closing_none h asks = λ b e1 e2 e3. let e = asks b e1 e2 e3 in omega (arith, e, h)
-
-  abbrev closing_asked : List Question
-  closing_asked = closing_questions (day_of r x m k (book_with t count codes)) p side s n
-
-  closing_yes : ClosingNo r x t count codes m k p side s n 0 → AllYes closing_asked
-  unfolding closing_questions
-  closing_yes asks = all_yes closing_asked tt (sym (asks (book_with t count codes) refl refl refl))
-
-  pub closing_makeable : Askable r t codes → ClosingNo r x t count codes m k p side s n 0
-      → Numberable r.participants codes p × (n ≤ max_lots)
-  unfolding closing_questions
-  closing_makeable known asks = (
-    session.counted known (ltb-true p r.participants (yes 4 closing_asked (closing_yes asks))),
-    within_high 1 max_lots n (yes 7 closing_asked (closing_yes asks)),
-  )
-
-  pub closing_listed : Askable r t codes → ClosingNo r x t count codes m k p side s n 0 → s < max_securities
-  unfolding closing_questions
-  closing_listed known asks =
-      omega (
-        arith,
-        ltb-true s r.securities (yes 5 closing_asked (closing_yes asks)),
-        known.rules.securities,
-      )
 
 -- is there a command, and room for it?
 pub text_over : (all at size filled : ℕ) → all ≤ at → false ≡ goes_on all at size filled

@@ -2,4 +2,3 @@ pub mod Rounds
 pub mod WithRoom
 pub mod Placing
 pub mod Carrying
-pub mod Loop

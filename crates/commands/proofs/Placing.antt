@@ -5,10 +5,10 @@ use mathlib.Core.Path.{◌≡◌, refl, sym, ap, ◌∙◌}
 use mathlib.Core.List.{List, ◌∷◌, ◌++◌, append_assoc}
 use lib.ListN.{drop, length, take, length-append, length-drop, length-take}
 use Rattle.market.specs.declared.Answer.{Answer}
-use Rattle.market.specs.declared.Carried.{Carried}
+use Rattle.market.specs.declared.Floor.{Floor}
 use Rattle.market.specs.declared.Rules.{Rules}
 use Rattle.market.specs.declared.Ticket.{Ticket}
-use Rattle.market.specs.Limits.{lent_at_least, max_trades, numbers_per_trade}
+use Rattle.market.specs.Limits.{max_trades, numbers_per_trade}
 use Rattle.market.specs.Day.{Day}
 use Rattle.market.specs.View.{day_of}
 use Rattle.market.specs.Answers.{Result, numbers_of}
@@ -28,17 +28,15 @@ use Rattle.commands.specs.Stand.{Going, Onward, room}
 use Rattle.commands.proofs.Rounds.{carried_then, outputs_next, text_then}
 use Rattle.commands.proofs.WithRoom.{with_room_next}
 
--- a command's trades have room in the list and in the buffer
-pub trades_fit : {out out' : List ℕ} {at end : ℕ} (trades : List ℕ) (line : ℕ) (a : Answer) (count : ℕ)
-    → (numbers_of a).trades ≡ count → (numbers_of a).trades ≤ max_trades → length trades ≡ lent_at_least
-    → at + room ≤ length out
-    → Puts out at (answer_line line a) out' end
-    → (count * numbers_per_trade ≤ length trades) × (end + count * line_room numbers_per_trade ≤ length out')
-trades_fit trades line a count e few lent enough p =
+-- a command's trades have room in the buffer
+pub trades_fit : {out out' : List ℕ} {at end : ℕ} (line : ℕ) (a : Answer) (count : ℕ) → (numbers_of a).trades ≡ count
+    → (numbers_of a).trades ≤ max_trades → at + room ≤ length out → Puts out at (answer_line line a) out' end
+    → end + count * line_room numbers_per_trade ≤ length out'
+trades_fit line a count e few enough p =
     let n = answer_length line a in
     let s = p.size in
     let q = p.end in
-    (omega (arith, e, few, lent), omega (arith, e, few, enough, n, s, q))
+    omega (arith, e, few, enough, n, s, q)
 
 -- a refusal has no trades
 pub puts_refused : {out out' : List ℕ} {at end : ℕ} (line : ℕ) (a : Answer) (trades : List ℕ)
@@ -49,16 +47,16 @@ unfolding flat_lines
 puts_refused {out' = out'} {end = end} line a trades e p = rw e (puts_then p (puts_none out' end))
 
 -- the answer and the trades of a command that was carried out are its lines
-lines_carried : {x : Result} {r : Rules} {lent m' k' list' : List ℕ} {o : Carried} (line : ℕ)
-    → Does x r lent m' k' list' o
-    → answer_line line o.answer ++ flat_lines (numbers_of o.answer).trades list' ≡ command_lines line x
+lines_carried : {x : Result} {r : Rules} {lent list' : List ℕ} {f' : Floor} {a : Answer} (line : ℕ)
+    → Does x r lent f' list' a
+    → answer_line line a ++ flat_lines (numbers_of a).trades list' ≡ command_lines line x
 unfolding command_lines
-lines_carried {x} {lent = lent} {list' = list'} {o = o} line h =
+lines_carried {x} {lent = lent} {list' = list'} {a = a} line h =
     let trades =
     ap (λ (n : ℕ). flat_lines n list') h.trades
     ∙ ap (flat_lines (length x.trades)) h.list
     ∙ flat_lines_lem x.trades lent in
-    ap (λ (a : Answer). answer_line line a ++ flat_lines (numbers_of o.answer).trades list') h.answer
+    ap (λ (b : Answer). answer_line line b ++ flat_lines (numbers_of a).trades list') h.answer
     ∙ ap (λ (l : List ℕ). answer_line line x.answer ++ l) trades
 
 -- what is put into the buffer is what was to be printed first
@@ -88,23 +86,16 @@ pub lines_few : {text : List ℕ} {at : ℕ} {c : Reading} → Reads text at c �
 lines_few {text} {at} h = let few = yield_few (drop at text) in let e = h.lines in omega (arith, few, e)
 
 -- where the commands stand after the next one
-abbrev pub next_stand : Stand → Reading → Carried → ℕ → Stand
-next_stand s c o end = record {
-  book = o.book;
-  phase = o.phase;
-  at = c.next;
-  line = s.line + c.lines;
-  filled = end;
-}
+abbrev pub next_stand : Stand → Reading → ℕ → Stand
+next_stand s c end = record { at = c.next; line = s.line + c.lines; filled = end }
 
-pub command_next : (text : List ℕ) (r : Rules) (m k : List ℕ) (s : Stand) (before after lent m' k' list' : List ℕ)
-    (c : Reading) (o : Carried) (end : ℕ) → Going text r m k s → s.at < length text
+pub command_next : (text : List ℕ) (r : Rules) (f : Floor) (s : Stand) (before after lent : List ℕ) (f' : Floor)
+    (list' : List ℕ) (c : Reading) (a : Answer) (end : ℕ) → Going text r f s → s.at < length text
     → s.filled + room ≤ length before → Reads text s.at c
-    → Does (carried (day_of r s.phase m k s.book) c.says c.members) r lent m' k' list' o
-    → Puts before s.filled
-    (answer_line s.line o.answer ++ flat_lines (numbers_of o.answer).trades list') after end
-    → Onward text r m k s before m' k' (next_stand s c o end) after
-command_next text r m k s before after lent m' k' list' c o end g h enough reads does p =
+    → Does (carried (day_of r f) c.says c.members) r lent f' list' a
+    → Puts before s.filled (answer_line s.line a ++ flat_lines (numbers_of a).trades list') after end
+    → Onward text r f s before f' (next_stand s c end) after
+command_next text r f s before after lent f' list' c a end g h enough reads does p =
     let few = lines_few reads in
     let forward = reads.forward h in
     let line = g.line in
@@ -130,13 +121,13 @@ command_next text r m k s before after lent m' k' list' c o end g h enough reads
     }
   where
     d : Day
-    d = day_of r s.phase m k s.book
+    d = day_of r f
 
     d' : Day
-    d' = day_of r o.phase m' k' o.book
+    d' = day_of r f'
 
     bytes : List ℕ
-    bytes = answer_line s.line o.answer ++ flat_lines (numbers_of o.answer).trades list'
+    bytes = answer_line s.line a ++ flat_lines (numbers_of a).trades list'
 
     later : List (List ℕ)
     later = outputs_from d' (s.line + c.lines) (drop c.next text)
@@ -160,9 +151,9 @@ command_next text r m k s before after lent m' k' list' c o end g h enough reads
         ∙ with_room_next (length before - s.filled) bytes later (omega (arith, enough))
         ∙ ap (λ (n : ℕ). bytes ++ with_room n later) left
 
-pub onward_none : (text : List ℕ) (r : Rules) (m k : List ℕ) (s : Stand) (out : List ℕ) → Going text r m k s
-    → s.filled ≤ length out → Onward text r m k s out m k s out
-onward_none text r m k s out g h = record {
+pub onward_none : (text : List ℕ) (r : Rules) (f : Floor) (s : Stand) (out : List ℕ) → Going text r f s
+    → s.filled ≤ length out → Onward text r f s out f s out
+onward_none text r f s out g h = record {
   going = g;
   size = refl;
   filled = h;
@@ -175,10 +166,10 @@ onward_none text r m k s out g h = record {
   rest = refl;
 }
 
-pub onward_then : {text : List ℕ} {r : Rules} {m k : List ℕ} {s : Stand} {out₀ m₁ k₁ : List ℕ} {s₁ : Stand}
-    {out₁ m₂ k₂ : List ℕ} {s₂ : Stand} {out₂ : List ℕ} → Onward text r m k s out₀ m₁ k₁ s₁ out₁
-    → Onward text r m₁ k₁ s₁ out₁ m₂ k₂ s₂ out₂ → Onward text r m k s out₀ m₂ k₂ s₂ out₂
-onward_then {text} {r} {m} {k} {s} {out₀} {m₁} {k₁} {s₁} {out₁} {s₂ = s₂} a b = record {
+pub onward_then : {text : List ℕ} {r : Rules} {f : Floor} {s : Stand} {out₀ : List ℕ} {f₁ : Floor} {s₁ : Stand}
+    {out₁ : List ℕ} {f₂ : Floor} {s₂ : Stand} {out₂ : List ℕ} → Onward text r f s out₀ f₁ s₁ out₁
+    → Onward text r f₁ s₁ out₁ f₂ s₂ out₂ → Onward text r f s out₀ f₂ s₂ out₂
+onward_then {text} {r} {f} {s} {out₀} {f₁} {s₁} {out₁} {s₂ = s₂} a b = record {
   going = b.going;
   size = b.size ∙ a.size;
   filled = b.filled;
@@ -190,8 +181,8 @@ onward_then {text} {r} {m} {k} {s} {out₀} {m₁} {k₁} {s₁} {out₁} {s₂ 
   day =
       b.day
       ∙ ap (λ (d : Day). carried_out b.count d (drop s₁.at text)) a.day
-      ∙ ap (carried_out b.count (carried_out a.count (day_of r s.phase m k s.book) (drop s.at text))) a.rest
-      ∙ sym (carried_then a.count b.count (day_of r s.phase m k s.book) (drop s.at text));
+      ∙ ap (carried_out b.count (carried_out a.count (day_of r f) (drop s.at text))) a.rest
+      ∙ sym (carried_then a.count b.count (day_of r f) (drop s.at text));
   rest =
       b.rest ∙ ap (text_after b.count) a.rest ∙ sym (text_then a.count b.count (drop s.at text));
 }

@@ -1,6 +1,7 @@
 -- What a line of the day file does: the call that it makes.
 use Rattle.std.specs.Prelude.{ℕ, ◌≤◌, ◌≡◌, List, length}
-use Rattle.market.specs.declared.Carried.{Carried}
+use Rattle.market.specs.declared.Answer.{Answer}
+use Rattle.market.specs.declared.Floor.{Floor}
 use Rattle.market.specs.declared.Rules.{Rules}
 use Rattle.market.specs.declared.Ticket.{Ticket}
 use Rattle.market.specs.Limits.{lent_at_least, max_trades}
@@ -29,11 +30,11 @@ carried d line.Malformed ms = refused d malformed 0
 
 -- answer, day and trade list are those of a result; the day stays sound, and the answered trades are those made, no more
 -- than the lent list takes
-pub record Does (x : Result) (r : Rules) (lent m' k' list' : List ℕ) (o : Carried) : Type 0 where
-  pub answer : o.answer ≡ x.answer
-  pub day : day_of r o.phase m' k' o.book ≡ x.day
+pub record Does (x : Result) (r : Rules) (lent : List ℕ) (f' : Floor) (list' : List ℕ) (a : Answer) : Type 0 where
+  pub answer : a ≡ x.answer
+  pub day : day_of r f' ≡ x.day
   pub list : list' ≡ written x.trades lent
-  pub ready : Ready r o.phase m' k' o.book
-  pub trades : (numbers_of o.answer).trades ≡ length x.trades
+  pub ready : Ready r f'
+  pub trades : (numbers_of a).trades ≡ length x.trades
   pub few : length x.trades ≤ max_trades
   pub size : length list' ≡ length lent

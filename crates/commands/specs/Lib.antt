@@ -1,4 +1,3 @@
 pub mod Command
 pub mod Output
 pub mod Stand
-pub mod Asked

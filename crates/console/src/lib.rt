@@ -7,9 +7,10 @@ ghost use Rattle.dayfile.specs.Run.{room};
 use dayfile::{begin, resume};
 use std::io::Write;
 use std::rt::Clock;
-use streams::write_first;
+use streams::write_whole;
 
 // The buffer takes part after part; each is written before the next. After a part that did not go through nothing is written.
+// `player` has the same loop for a script: a trait for both, with what its ending needs as a law, would be longer than the loop.
 fn print_parts<R: Clock + Eprint, W: Write>(
     rt: &R,
     file: &mut W,
@@ -20,13 +21,13 @@ fn print_parts<R: Clock + Eprint, W: Write>(
 {
     let mut r = begin(text, out);
     while !r.over {
-        if !write_first(rt, file, out, r.filled) {
+        if !write_whole(rt, file, &out[..r.filled]) {
             return false;
         }
         r.filled = 0;
         r = resume(text, r, out);
     }
-    write_first(rt, file, out, r.filled)
+    write_whole(rt, file, &out[..r.filled])
 }
 
 // Whether all of the day went through.

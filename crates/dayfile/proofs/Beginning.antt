@@ -1,7 +1,7 @@
 -- The beginning of a run: the first output stands in the buffer, the others are left.
 use Prim.Native.Nat.{ℕ, ◌-◌, ◌≤◌, ◌<◌}
 use native.Mathlib.Omega.{arith}
-use mathlib.Core.Path.{◌≡◌, refl, ap, sym, subst, ◌∙◌}
+use mathlib.Core.Path.{◌≡◌, refl, ap, sym, ◌∙◌}
 use mathlib.Core.List.{List, [], ◌∷◌, ◌++◌}
 use mathlib.Core.Bool.{Bool, true, false, not}
 use lib.ListN.{drop, length, take}
@@ -68,14 +68,6 @@ begins_small {text} {before} {r} less over none zeros = record {
   day = rw (lt-leb room (length before) less) zeros;
   rest = λ goes. never (sym goes ∙ over);
   all = λ _ read. never (rw (lt-leb room (length before) less) at read);
-}
-
-pub ends_long : {before after : List ℕ} {n : ℕ} {r : Run} → r.over ≡ true → r.filled ≡ n
-    → view r.state ≡ opened no_rules → Puts before 0 (answer_line 0 (Refused too_long 0)) after n → TooLong before r after
-ends_long {before} {after} over e zeros p = record {
-  over = over;
-  state = zeros;
-  puts = subst (λ (i : ℕ). Puts before 0 (answer_line 0 (Refused too_long 0)) after i) (sym e) p;
 }
 
 pub begins_long : {text before after : List ℕ} {r : Run} → room ≤ length before → max_text < length text

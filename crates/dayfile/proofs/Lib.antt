@@ -1,4 +1,3 @@
-pub mod Sized
 pub mod Resuming
 pub mod Beginning
 pub mod Some

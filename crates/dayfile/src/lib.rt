@@ -10,11 +10,9 @@ ghost use Rattle.dayfile.specs.Run.{Begins, Fills, Going, Prints, TooLong, room}
 
 use commands::{Stand, commands};
 use heading::heading_of;
-use market::{Answer, State, book_of, rules_of, state_of};
+use market::{Answer, Refusal, State};
 use opening::refused_opening;
 use printing::{put_answer, put_positions};
-
-const TOO_LONG: u64 = 20;
 
 pub const MAX_TEXT: usize = 65536;
 
@@ -23,7 +21,7 @@ pub const ROOM: usize = commands::ROOM;
 
 // A run of a day file: the state, the place where the text goes on and the number of its line there, how much of the
 // buffer is filled, and whether all is printed. Of the state its day alone is read: no line says a date or a deal, so its
-// records are the opening's to the end.
+// records are the opening's to the end. `over` is no Option around the rest: `Begins` and `over_value` speak of it.
 #[derive(Clone, Copy)]
 pub struct Run {
     pub state: State,
@@ -42,63 +40,47 @@ pub fn resume(text: &[u8], from: Run, out: &mut [u8]) -> Run
     requires room_in_bounds { from.filled + room ≤ length out.old }
     ensures { Fills text.now from out.old result out.new }
 {
-    let s = from.state;
-    let rules = rules_of(s);
-    let book = book_of(s);
-    let phase = s.phase;
-    let mut money = s.money;
-    let mut pieces = s.pieces;
+    let rules = &from.state.rules;
+    let mut run = from;
     let first = Stand {
-        book,
-        phase,
-        at: from.at,
-        line: from.line,
-        filled: from.filled,
+        at: run.at,
+        line: run.line,
+        filled: run.filled,
     };
-    let last = commands(text, first, rules, &mut money, &mut pieces, out);
-    let next = last.phase;
-    let after = last.book;
-    let mut r = Run {
-        state: state_of(s, next, money, pieces, after),
-        at: last.at,
-        line: last.line,
-        filled: last.filled,
-        over: false,
-    };
-    if out.len() - ROOM < r.filled {
-        return r;
+    let last = commands(text, first, &mut run.state.floor, rules, out);
+    run.at = last.at;
+    run.line = last.line;
+    run.filled = last.filled;
+    if out.len() - ROOM < run.filled {
+        return run;
     }
     // With room left, the commands stopped after the last of them.
-    r.filled = put_positions(
+    run.filled = put_positions(
         out,
-        r.filled,
-        s.participants,
-        s.currencies,
-        s.securities,
-        &money,
-        &pieces,
+        run.filled,
+        rules.participants,
+        rules.currencies,
+        rules.securities,
+        &run.state.floor.money,
+        &run.state.floor.pieces,
     );
-    r.over = true;
-    r
+    run.over = true;
+    run
 }
 
 pub fn is_done(answer: Answer) -> bool
     ensures { result ≡ is_done answer }
 {
-    match answer {
-        Answer::Refused(_, _) => false,
-        Answer::Done(_, _, _, _) => true,
-    }
+    matches!(answer, Answer::Done(..))
 }
 
 // A run that is over, with a state of zeros.
 fn ended(filled: usize) -> Run
     ensures { (result.over ≡ true) × (result.filled ≡ filled) × (view result.state ≡ opened no_rules) }
 {
-    let outcome = refused_opening(TOO_LONG, 0);
-    let state = outcome.state;
+    let number = Refusal::TextTooLong.number();
     Run {
-        state,
+        state: refused_opening(number, 0).state,
         at: 0,
         line: 0,
         filled,
@@ -111,8 +93,7 @@ fn too_long(out: &mut [u8]) -> Run
     requires { room ≤ length out.old }
     ensures { TooLong out.old result out.new }
 {
-    let answer = Answer::Refused(TOO_LONG, 0);
-    ended(put_answer(out, 0, 0, answer))
+    ended(put_answer(out, 0, 0, Answer::from(Refusal::TextTooLong)))
 }
 
 // Reads the heading, and puts its answer into the buffer. A buffer under `ROOM` bytes stays as it was.
@@ -126,21 +107,18 @@ pub fn begin(text: &[u8], out: &mut [u8]) -> Run
         return too_long(out);
     }
     let heading = heading_of(text);
-    let outcome = heading.outcome;
-    let answer = outcome.answer;
-    let filled = put_answer(out, 0, heading.line, answer);
-    let state = outcome.state;
+    let answer = heading.outcome.answer;
     Run {
-        state,
+        state: heading.outcome.state,
         at: heading.at,
         line: heading.next,
-        filled,
+        filled: put_answer(out, 0, heading.line, answer),
         over: !is_done(answer),
     }
 }
 
 // The whole day in one buffer, as far as each command, and at last the positions, begin with `ROOM` bytes left: how many
-// bytes are printed, or 0 where that is not all of the day.
+// bytes are printed, or 0 where that is not all of the day. 0, no Option: `Prints` says so.
 pub fn whole_day(text: &[u8], out: &mut [u8]) -> usize
     ensures { Prints text.now out.old result out.new }
 {

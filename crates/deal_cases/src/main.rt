@@ -17,7 +17,7 @@ fn largest_date(rt: &impl Print) {
     let s = after(
         rt,
         b"opening on the largest date: 24",
-        opening(2, 2, 2, table(), 0, 18446744073709551615),
+        opening(2, 2, 2, table(), 0, u64::MAX),
     );
     after(rt, b"its state: 1", increase_money(s, 0, 0, 1));
 }
@@ -57,7 +57,7 @@ fn offers_in_other_phases(rt: &impl Print) {
 
 fn asked_buy_offer(rt: &impl Print, label: &[u8], blocked: u64) {
     let mut s = with_codes(with_money(day(), 0, 0, blocked), 0, 4);
-    s.orders[0] = Order {
+    s.floor.orders[0] = Order {
         code: 3,
         participant: 0,
         side: Side::Buy,
@@ -66,7 +66,7 @@ fn asked_buy_offer(rt: &impl Print, label: &[u8], blocked: u64) {
         security: 0,
         kind: Kind::Offer(300, 7, 95),
     };
-    s.count = 1;
+    s.floor.count = 1;
     asked(rt, label, s);
 }
 
@@ -120,7 +120,7 @@ fn asked_date(rt: &impl Print, label: &[u8], date: u64) {
 fn dates(rt: &impl Print) {
     asked_date(rt, b"the table's last day, sound", 146096);
     asked_date(rt, b"the day after it: 1", 146097);
-    asked_date(rt, b"the largest date: 1", 18446744073709551615);
+    asked_date(rt, b"the largest date: 1", u64::MAX);
 }
 
 fn asked_names(rt: &impl Print, label: &[u8], buyer: u8, seller: u8, security: u8) {
@@ -186,13 +186,13 @@ fn deal_days(rt: &impl Print) {
     asked_days(rt, b"due on the day after it: 1", 146096, 146090);
     asked_days(rt, b"overdue, sound", 146096, 0);
     asked_days(rt, b"from a later day on: 1", 19999, 20000);
-    asked_days(rt, b"the largest first day: 1", 146096, 4294967295);
+    asked_days(rt, b"the largest first day: 1", 146096, u32::MAX);
 }
 
 // The deal in a security with this line, at this price.
 fn deal_in(row: Security, price: u32, lots: u16) -> State {
     let mut s = day();
-    s.table[0] = row;
+    s.rules.table[0] = row;
     let mut x = deal();
     x.price = price;
     x.lots = lots;
@@ -212,7 +212,7 @@ fn share(lot: u64) -> Security {
 fn first_sums(rt: &impl Print) {
     let mut s = deal_in(share(1), 1000000, 10000);
     asked(rt, b"a first sum of 10^10, sound", s);
-    s.rate = 1000;
+    s.rules.rate = 1000;
     asked(rt, b"the same with a tariff, sound", s);
     asked(
         rt,
@@ -267,7 +267,7 @@ fn asked_count(rt: &impl Print, label: &[u8], count: usize) {
 fn deal_counts(rt: &impl Print) {
     asked_count(rt, b"64 deals, sound", 64);
     asked_count(rt, b"65 deals: 1", 65);
-    asked_count(rt, b"far too many deals: 1", 18446744073709551615);
+    asked_count(rt, b"far too many deals: 1", usize::MAX);
 }
 
 fn deals_in_phases(rt: &impl Print) {
@@ -297,21 +297,14 @@ fn unsound_records(rt: &impl Print) {
     after(rt, b"start of closing: 1", start_closing(s));
 }
 
-// 128 kept orders of one lot, all of participant 1. His codes are set apart, so that the loop's proof stays small.
-fn full_book() -> State {
-    let mut s = with_pieces(funded(), 16, 0, 1280);
-    s.count = 128;
-    let mut i: usize = 0;
-    while i < 128 {
-        s.orders[i] = sell_order(i as u64 + 1, 1, 0, 1, Kind::Kept(95));
-        i += 1;
-    }
-    s
-}
-
-// The same, his codes given.
+// 128 kept orders of one lot, all of participant 1.
 fn full_day() -> State {
-    with_codes(full_book(), 1, 128)
+    let mut s = with_codes(with_pieces(funded(), 16, 0, 1280), 1, 128);
+    for (i, order) in s.floor.orders.iter_mut().enumerate() {
+        *order = sell_order(i as u64 + 1, 1, 0, 1, Kind::Kept(95));
+    }
+    s.floor.count = 128;
+    s
 }
 
 // An order isn't asked for room among the deals.
@@ -376,7 +369,7 @@ fn offer_codes(rt: &impl Print) {
 }
 
 fn offer_beside_counts_past(rt: &impl Print) {
-    let s = with_counts_past(funded(), 18446744073709551615);
+    let s = with_counts_past(funded(), u64::MAX);
     let s = after(
         rt,
         b"an offer beside counts past the participants",
@@ -400,7 +393,7 @@ fn older_offers(rt: &impl Print) {
 
 // The largest number is a multiple of the step.
 fn largest_offers(rt: &impl Print) {
-    let n: u64 = 18446744073709551615;
+    let n = u64::MAX;
     let s = funded();
     after(
         rt,
@@ -438,8 +431,12 @@ fn met(rt: &impl Print, label: &[u8], s: State, participant: u64, side: Side, lo
 }
 
 fn date_and_deals(rt: &impl Print, s: State) {
-    let records = s.records;
-    position(rt, b"date and deals", records.date, records.count as u64);
+    position(
+        rt,
+        b"date and deals",
+        s.records.date,
+        s.records.count as u64,
+    );
 }
 
 fn first_part(rt: &impl Print) {
@@ -447,7 +444,7 @@ fn first_part(rt: &impl Print) {
     let s = met(rt, b"an offer to sell waits", s, 1, Side::Sell, 10);
     let s = met(rt, b"an offer to buy meets it", s, 0, Side::Buy, 10);
     money(rt, b"free and blocked money of the buyer", s, 0);
-    let t = s.turnover[0];
+    let t = s.floor.turnover[0];
     position(rt, b"Q and T stay", t.pieces, t.value);
     date_and_deals(rt, s);
     met(rt, b"that was the 64th deal: 26", s, 0, Side::Buy, 10);
@@ -462,11 +459,7 @@ fn due(count: usize, cash: u64) -> State {
 // 7 days of a year of 366: 9500 × 300 × 7 / 3660000 is 5.45.
 fn places(rt: &impl Print) {
     let s = due(64, 9505);
-    after(
-        rt,
-        b"the largest place: 16",
-        second_part(s, 18446744073709551615),
-    );
+    after(rt, b"the largest place: 16", second_part(s, u64::MAX));
     after(rt, b"place 65: 16", second_part(s, 65));
     after(rt, b"a unit short: 14", second_part(due(64, 9504), 64));
     let s = after(rt, b"place 64", second_part(s, 64));
@@ -478,7 +471,7 @@ fn places(rt: &impl Print) {
 // The largest first sum at the highest rate for 365 days, on its due day; the first seller has this money.
 fn paid_back(rt: &impl Print, label: &[u8], first: u32, date: u64, cash: u64) {
     let mut s = day();
-    s.table[0] = share(1);
+    s.rules.table[0] = share(1);
     let mut x = deal();
     x.price = 1000000;
     x.lots = 10000;
@@ -513,20 +506,16 @@ fn second_sums(rt: &impl Print) {
 
 fn later_day(rt: &impl Print) {
     let mut s = with_phase(with_deals(funded(), 20000, deal(), 64), Phase::Closed);
-    after(
-        rt,
-        b"the largest date: 24",
-        new_day(s, 18446744073709551615),
-    );
-    s.codes[0] = 62500;
-    s.codes[1] = 62500;
-    s.turnover[0] = Turnover {
+    after(rt, b"the largest date: 24", new_day(s, u64::MAX));
+    s.floor.codes[0] = 62500;
+    s.floor.codes[1] = 62500;
+    s.floor.turnover[0] = Turnover {
         pieces: 1250000000000,
         value: 1250000000000,
     };
     let s = after(rt, b"a new day after all codes", new_day(s, 20001));
     date_and_deals(rt, s);
-    let t = s.turnover[0];
+    let t = s.floor.turnover[0];
     position(rt, b"Q and T", t.pieces, t.value);
     codes_anew(rt, s);
 }

@@ -1,4 +1,4 @@
--- Second parts and new days on the parts of a sound ledger.
+-- Second parts and new days on a sound ledger.
 use Prim.Native.Nat.{ℕ, ◌+◌, ◌-◌, ◌≤◌, ◌<◌}
 use native.Mathlib.Omega.{arith}
 use mathlib.Core.Path.{◌≡◌, refl, sym, subst, ◌∙◌}
@@ -10,11 +10,10 @@ use borrow.Author.Tests.{eqb-true, eqb-false, le-leb, leb-true, le-ltb, lt-leb, 
 use Rattle.market.specs.declared.Access.TheVariants.{NewDay}
 use Rattle.market.specs.declared.Answer.TheVariants.{Done, Refused}
 use Rattle.market.specs.declared.Deal.{Deal}
-use Rattle.market.specs.declared.Dealt.{Dealt}
-use Rattle.market.specs.declared.OrderBook.{OrderBook}
-use Rattle.market.specs.declared.Phase.{Phase}
+use Rattle.market.specs.declared.Floor.{Floor}
 use Rattle.market.specs.declared.Phase.TheVariants.{Open}
 use Rattle.market.specs.declared.Records.{Records}
+use Rattle.market.specs.declared.Refusal.{Refusal}
 use Rattle.market.specs.declared.Rules.{Rules}
 use Rattle.market.specs.Limits.{last_day, max_deals, max_securities, money_limit}
 use Rattle.market.specs.Tests.{◌and◌, within}
@@ -28,6 +27,7 @@ use Rattle.market.specs.Needs.{pieces_of}
 use Rattle.market.specs.Calendar.{second_sum}
 use Rattle.market.specs.Positions.{change, draw}
 use Rattle.market.specs.Questions.{first_no, is_free}
+use Rattle.market.specs.Refusals.{number_of}
 use Rattle.market.specs.Deals.{begins, deal_at, deal_sound, first_sum, handed, no_deal, second_paid}
 use Rattle.market.specs.Ledger.{Ledger, first_deals, ledger_of, records_sound}
 use Rattle.market.specs.Acts.{new_day, second_part}
@@ -45,8 +45,9 @@ use Rattle.deals.proofs.OpenDeals.{deal_right, few_deals}
 use Rattle.invariant.specs.Standing.{Standing}
 use Rattle.invariant.proofs.Sound.{sound_standing}
 use Rattle.invariant.proofs.Held.{held_cell, held_within}
+use Rattle.orders.proofs.Asking.{positive}
 use Rattle.dealings.specs.declared.Part.{Part}
-use Rattle.dealings.specs.Second.{Ends, Handable, Payable, Pays, paid_money, paid_pieces, part_of, part_questions}
+use Rattle.dealings.specs.Second.{Ends, Handable, Payable, Pays, paid, part_of, part_questions}
 
 -- once an amount has gone out, there is room for it where it goes, also where it came from
 pub room_after : {l : List ℕ} {i j a : ℕ} → Handable l i j a → {m : List ℕ} → m ≡ change l i (draw a)
@@ -80,13 +81,12 @@ pub part_is : (r : Rules) (x : Deal) {buyer seller s lots first term rate sum pi
     }) (part_of r x)
 part_is r x eb es ec el ef et er e1 ep e2 = cc
 
--- the parts of a sound ledger
-module _ (r : Rules) (x : Phase) (m k : List ℕ) (b : OrderBook) (z : Records) (ready : ReadyLedger r x m k b z) where
+module _ (r : Rules) (f : Floor) (z : Records) (ready : ReadyLedger r f z) where
   abbrev d : Day
-  d = day_of r x m k b
+  d = day_of r f
 
   abbrev l : Ledger
-  l = ledger_of r x m k b z
+  l = ledger_of r f z
 
   abbrev deals : List Deal
   deals = first_deals z.count z.deals
@@ -108,13 +108,10 @@ module _ (r : Rules) (x : Phase) (m k : List ℕ) (b : OrderBook) (z : Records) 
 
   -- the second part of the deal at this place
   module _ (place : ℕ) where
-    abbrev out : ℕ → Dealt
-    out n = record { carried = record { answer = Refused n 0; phase = x; book = b }; records = z }
-
-    pub second_none : within 1 z.count place ≡ false → (v : List ℕ) → CarriesAct r x m k b z v (second_part place) m k v (out 16)
+    pub second_none : within 1 z.count place ≡ false → (v : List ℕ) → CarriesAct r f z v (second_part place) f z v (Refused 16 0)
     unfolding act_questions
     second_none h v =
-        act_refuse r x m k b z v (second_part place) ready.sound 16 (omega arith) (rw (cut_length no_deal z.count z.deals, h))
+        act_refuse r f z v (second_part place) ready.sound 16 (omega arith) (rw (cut_length no_deal z.count z.deals, h))
 
     module _ (h : within 1 z.count place ≡ true) where
       pub second_place : (1 ≤ place) × (place - 1 < z.count)
@@ -149,16 +146,16 @@ module _ (r : Rules) (x : Phase) (m k : List ℕ) (b : OrderBook) (z : Records) 
         currency = omega (arith, currency, rules_right.currencies);
       }
 
-      asked : (v : List ℕ)
-          → first_no (act_questions l (length v) (second_part place)) ≡ first_no (part_questions z.date part m k)
+      asked : (v : List ℕ) → first_no (act_questions l (length v) (second_part place)) ≡ first_no (part_questions f z part)
       unfolding act_questions is_free
       asked v = rw (cut_length no_deal z.count z.deals, h, same)
 
-      pub second_no : (n : ℕ) → 0 < n → n ≡ first_no (part_questions z.date part m k) → (v : List ℕ)
-          → CarriesAct r x m k b z v (second_part place) m k v (out n)
-      second_no n some e v = act_refuse r x m k b z v (second_part place) ready.sound n some (asked v ∙ sym e)
+      pub second_no : (y : Refusal) → number_of y ≡ first_no (part_questions f z part) → (v : List ℕ)
+          → CarriesAct r f z v (second_part place) f z v (Refused (number_of y) 0)
+      second_no y e v =
+          act_refuse r f z v (second_part place) ready.sound (number_of y) (positive y) (asked v ∙ sym e)
 
-      module _ (none : first_no (part_questions z.date part m k) ≡ 0) where
+      module _ (none : first_no (part_questions f z part) ≡ 0) where
         low : (y : Asset) → total_limit y ≤ money_limit
         low Money = omega arith
         low Pieces = omega arith
@@ -177,9 +174,9 @@ module _ (r : Rules) (x : Phase) (m k : List ℕ) (b : OrderBook) (z : Records) 
               to_total = omega (arith, held_within h q column hq hc, low y);
             }
 
-        pub second_pays : Pays part m k
+        pub second_pays : Pays part f
         second_pays =
-            let qs = part_questions z.date part m k in
+            let qs = part_questions f z part in
             let c = and_true (yes 14 qs (all_yes qs tt none)) in
             record {
               payable = second_payable;
@@ -189,59 +186,37 @@ module _ (r : Rules) (x : Phase) (m k : List ℕ) (b : OrderBook) (z : Records) 
                   (leb-true _ _ c.0);
             }
 
-        pub second_done : {m' k' : List ℕ} → m' ≡ paid_money part m → k' ≡ paid_pieces part k → {z' : Records} → Ends z (place - 1) z'
-            → (v : List ℕ)
-            → CarriesAct r x m k b z v (second_part place) m' k' v
-            (record { carried = record { answer = Done 0 0 0 0; phase = x; book = b }; records = z' })
+        pub second_done : {f' : Floor} → f' ≡ paid part f → {z' : Records} → Ends z (place - 1) z' → (v : List ℕ)
+            → CarriesAct r f z v (second_part place) f' z' v (Done 0 0 0 0)
         unfolding act_effect second_paid handed
-        second_done em ek ends v =
-            act_accept r x m k b z v (second_part place) ready.sound _ _ v _ (asked v ∙ none) refl
-            (rw (em, ek, ends.date, ends.deals, same)) refl
+        second_done {f'} moved {z'} ends v =
+            act_accept r f z v (second_part place) ready.sound f' z' v 0 0 0 0 (asked v ∙ none) refl
+            (rw (moved, ends.date, ends.deals, same)) refl
 
   -- a new day, of this date
   module _ (date : ℕ) (v : List ℕ) where
-    abbrev refuses : ℕ → Type 0
-    refuses n =
-        CarriesAct r x m k b z v (new_day date) m k v
-        (record { carried = record { answer = Refused n 0; phase = x; book = b }; records = z })
-
-    pub day_phase : admits x NewDay ≡ false → refuses 6
+    pub day_phase : admits f.phase NewDay ≡ false → CarriesAct r f z v (new_day date) f z v (Refused 6 0)
     unfolding act_questions
-    day_phase h = act_refuse r x m k b z v (new_day date) ready.sound 6 (omega arith) (rw h)
+    day_phase h = act_refuse r f z v (new_day date) ready.sound 6 (omega arith) (rw h)
 
-    module _ (h : admits x NewDay ≡ true) where
-      pub day_past : date ≤ z.date → refuses 24
+    module _ (h : admits f.phase NewDay ≡ true) where
+      pub day_past : date ≤ z.date → CarriesAct r f z v (new_day date) f z v (Refused 24 0)
       unfolding act_questions ◌and◌
       day_past e =
-          act_refuse r x m k b z v (new_day date) ready.sound 24 (omega arith) (rw (h, le-ltb z.date date e))
+          act_refuse r f z v (new_day date) ready.sound 24 (omega arith) (rw (h, le-ltb z.date date e))
 
       module _ (later : z.date < date) where
-        pub day_far : last_day < date → refuses 24
+        pub day_far : last_day < date → CarriesAct r f z v (new_day date) f z v (Refused 24 0)
         unfolding act_questions ◌and◌
         day_far e =
-            act_refuse r x m k b z v (new_day date) ready.sound 24 (omega arith)
+            act_refuse r f z v (new_day date) ready.sound 24 (omega arith)
             (rw (h, lt-ltb z.date date later, lt-leb date last_day e))
 
         pub day_begins : date ≤ last_day
-            → CarriesAct r x m k b z v (new_day date) m k v
-            (record {
-              carried = record {
-                answer = Done 0 0 0 0;
-                phase = Open;
-                book = record {
-                  orders = b.orders;
-                  count = b.count;
-                  codes = no_codes;
-                  turnover = replicate max_securities no_turnover;
-                  filled = b.filled;
-                  left = b.left;
-                  trades = b.trades;
-                  code = b.code;
-                };
-              };
-              records = record { date = date; count = z.count; deals = z.deals };
-            })
+            → CarriesAct r f z v (new_day date)
+            (record f { phase = Open; codes = no_codes; turnover = replicate max_securities no_turnover })
+            (record z { date = date }) v (Done 0 0 0 0)
         unfolding act_questions act_effect begins ◌and◌
         day_begins e =
-            act_accept r x m k b z v (new_day date) ready.sound m k v _
+            act_accept r f z v (new_day date) ready.sound _ _ v 0 0 0 0
             (rw (h, lt-ltb z.date date later, le-leb date last_day e)) refl refl refl

@@ -1,9 +1,8 @@
--- Second parts and new days on the parts of a ledger: what they ask, and what they do.
+-- Second parts and new days on a lent floor and lent records: what they ask, and what they do.
 use Rattle.std.specs.Prelude.{ℕ, ◌≤◌, ◌<◌, ◌≡◌, List, [], ◌∷◌, length}
+use Rattle.market.specs.declared.Answer.{Answer}
 use Rattle.market.specs.declared.Deal.{Deal}
-use Rattle.market.specs.declared.Dealt.{Dealt}
-use Rattle.market.specs.declared.OrderBook.{OrderBook}
-use Rattle.market.specs.declared.Phase.{Phase}
+use Rattle.market.specs.declared.Floor.{Floor}
 use Rattle.market.specs.declared.Records.{Records}
 use Rattle.market.specs.declared.Rules.{Rules}
 use Rattle.market.specs.Limits.{cells, columns, money_limit, position_numbers}
@@ -30,11 +29,11 @@ part_of r x = record {
 }
 
 -- questions 24 and 14
-abbrev pub part_questions : ℕ → Part → List ℕ → List ℕ → List Question
-part_questions date p m k =
-    ask 24 (p.due ≤? date) ∷
-    ask 14 (p.pieces ≤? (position k (cell p.buyer p.security)).free
-    and p.sum ≤? (position m (cell p.seller p.currency)).free) ∷ []
+abbrev pub part_questions : Floor → Records → Part → List Question
+part_questions f z p =
+    ask 24 (p.due ≤? z.date) ∷
+    ask 14 (p.pieces ≤? (position f.pieces (cell p.buyer p.security)).free
+    and p.sum ≤? (position f.money (cell p.seller p.currency)).free) ∷ []
 
 -- its cells are those of positions
 pub record Payable (p : Part) : Type 0 where
@@ -53,19 +52,22 @@ pub record Handable (l : List ℕ) (from to amount : ℕ) : Type 0 where
   pub to_total : total (position l to) ≤ money_limit
 
 -- the second part can be paid
-pub record Pays (p : Part) (m k : List ℕ) : Type 0 where
+pub record Pays (p : Part) (f : Floor) : Type 0 where
   pub payable : Payable p
-  pub money : Handable m (cell p.seller p.currency) (cell p.buyer p.currency) p.sum
-  pub pieces : Handable k (cell p.buyer p.security) (cell p.seller p.security) p.pieces
+  pub money : Handable f.money (cell p.seller p.currency) (cell p.buyer p.currency) p.sum
+  pub pieces : Handable f.pieces (cell p.buyer p.security) (cell p.seller p.security) p.pieces
 
 -- and is paid
-abbrev pub paid_money : Part → List ℕ → List ℕ
-paid_money p m =
-    change (change m (cell p.seller p.currency) (draw p.sum)) (cell p.buyer p.currency) (receive p.sum)
-
-abbrev pub paid_pieces : Part → List ℕ → List ℕ
-paid_pieces p k =
-    change (change k (cell p.buyer p.security) (draw p.pieces)) (cell p.seller p.security) (receive p.pieces)
+abbrev pub paid : Part → Floor → Floor
+paid p f = record {
+  phase = f.phase;
+  orders = f.orders;
+  count = f.count;
+  codes = f.codes;
+  turnover = f.turnover;
+  money = change (change f.money (cell p.seller p.currency) (draw p.sum)) (cell p.buyer p.currency) (receive p.sum);
+  pieces = change (change f.pieces (cell p.buyer p.security) (draw p.pieces)) (cell p.seller p.security) (receive p.pieces);
+}
 
 -- the deal at this place is gone from the records
 pub record Ends (z : Records) (at : ℕ) (z' : Records) : Type 0 where
@@ -73,10 +75,10 @@ pub record Ends (z : Records) (at : ℕ) (z' : Records) : Type 0 where
   pub deals : first_deals z'.count z'.deals ≡ remove_at (first_deals z.count z.deals) at
 
 -- the contract of a second part, which asks for no list and writes none
-abbrev pub SecondParts : Rules → Phase → (m k : List ℕ) → OrderBook → Records → ℕ → (m' k' : List ℕ) → Dealt → Type 0
-SecondParts r x m k b z place m' k' o = (v : List ℕ) → CarriesAct r x m k b z v (second_part place) m' k' v o
+abbrev pub SecondParts : Rules → Floor → Records → ℕ → Floor → Records → Answer → Type 0
+SecondParts r f z place f' z' a = (v : List ℕ) → CarriesAct r f z v (second_part place) f' z' v a
 
--- that of a new day, which moves nothing
-abbrev pub NewDays : Phase → OrderBook → Records → ℕ → Dealt → Type 0
-NewDays x b z date o =
-    (r : Rules) (m k v : List ℕ) → ReadyLedger r x m k b z → CarriesAct r x m k b z v (new_day date) m k v o
+-- that of a new day, which reads no rules
+abbrev pub NewDays : Floor → Records → ℕ → Floor → Records → Answer → Type 0
+NewDays f z date f' z' a =
+    (r : Rules) (v : List ℕ) → ReadyLedger r f z → CarriesAct r f z v (new_day date) f' z' v a

@@ -1,36 +1,47 @@
-// The acts on deals (T-06): a repurchase offer, the second part of a deal, a new day; and their one dispatch. Questions are asked by
-// functions that only read; positions and the trade list are lent, order book and records go by value.
+// The acts on deals (T-06): a repurchase offer, the second part of a deal, a new day; and their one dispatch, on a lent floor and
+// lent records. Questions are asked by functions that only read.
 #![tactic(auto)]
 
 ghost use Rattle.std.specs.Prelude.{◌≡◌, true, [], ◌∷◌, ◌<◌, ◌≤◌};
-ghost use Rattle.market.specs.declared.Answer.TheVariants.{Refused};
 ghost use Rattle.market.specs.Limits.{max_deals};
+ghost use Rattle.market.specs.View.{day_of};
 ghost use Rattle.market.specs.Positions.{change, draw as drawing, receive as receiving};
-ghost use Rattle.market.specs.Deals.{deal_sound};
+ghost use Rattle.market.specs.Answers.{numbers_of};
 ghost use Rattle.market.specs.Questions.{first_no};
-ghost use Rattle.market.specs.Acts.{offer as offerAct};
+ghost use Rattle.market.specs.Refusals.{number_in};
+ghost use Rattle.market.specs.Offers.{offer_of as offerOf};
+ghost use Rattle.market.specs.Deals.{deal_sound};
 ghost use Rattle.market.specs.LedgerParts.{CarriesAct, ReadyLedger, act_of};
 ghost use Rattle.market.proofs.Known.{RulesOk};
+ghost use Rattle.invariant.specs.Standing.{Standing};
 ghost use Rattle.codes.specs.Numbers.{Numberable};
-ghost use Rattle.orders.specs.Entering.{Askable, Known};
-ghost use Rattle.dealings.specs.Asking.{Accepted, Narrow, OfferNo, loan_questions, offer_claim, offer_with};
+ghost use Rattle.orders.specs.Entering.{Askable};
+ghost use Rattle.dealings.specs.Asking.{Accepted, Narrow, loan_questions, offer_claim, offer_no, proposed};
 ghost use Rattle.dealings.specs.Recording.{Adds, Readable, deal_in, deals_in};
-ghost use Rattle.dealings.specs.Second.{Ends, Handable, NewDays, Payable, Pays, SecondParts, paid_money, paid_pieces, part_of, part_questions};
+ghost use Rattle.dealings.specs.Second.{Ends, Handable, NewDays, Payable, Pays, SecondParts, paid, part_of, part_questions};
 
-use amounts::{cell_of, from_u8, from_u16, from_u32, pieces_of, price_sound, sum_for, within};
+use amounts::{cell_of, pieces_of, price_sound, sum_for, within};
 use calendar::second_sum;
 use codes::numbered;
 use deals::{loan_sound, term_sound};
 use market::{
-    Access, Answer, Carried, Deal, Dealing, Dealt, Kind, LAST_DAY, LENT_AT_LEAST, Listing,
-    MAX_DEALS, MAX_OWN_CODES, MAX_WAITING, Order, OrderBook, Phase, Records, Rules, Ticket,
-    Turnover, registered, unnumbered,
+    Access, Answer, Deal, Dealing, Floor, Kind, LAST_DAY, LENT_AT_LEAST, MAX_DEALS, MAX_OWN_CODES,
+    MAX_WAITING, Order, Phase, Records, Refusal, Rules, Ticket, Turnover, unnumbered,
 };
 use offers::enter;
 use orders::early_no;
 use phases::admits;
 use positions::{draw, free_of, receive};
 use waiting::covers;
+
+// A repurchase offer as it is called.
+#[derive(Clone, Copy)]
+struct Proposal {
+    participant: u64,
+    ticket: Ticket,
+    rate: u64,
+    term: u64,
+}
 
 // What the second part of a deal moves, between whom, and from which day on.
 #[derive(Clone, Copy)]
@@ -44,145 +55,91 @@ pub struct Part {
     pub sum: u64,
 }
 
-// A refusal with place 0, and everything as it was.
-fn declined(book: OrderBook, records: Records, phase: Phase, number: u64) -> Dealt
-    ensures { result ≡ record { carried = record { answer = Refused number 0; phase = phase; book = book }; records = records } }
-{
-    Dealt {
-        carried: market::declined(book, phase, number),
-        records,
-    }
-}
-
 // The offer before it is numbered, which suffices for question 14: no need reads code or arrival.
-fn offer_claim(participant: u64, ticket: Ticket, rate: u64, term: u64) -> Order
-    requires { Narrow ticket.lots rate term }
-    ensures { result ≡ offer_claim participant ticket rate term }
+fn offer_claim(proposal: Proposal) -> Order
+    requires { Narrow proposal }
+    ensures { result ≡ offer_claim proposal }
 {
-    let side = ticket.side;
-    let kind = Kind::Offer(rate as u16, term as u16, ticket.price);
-    unnumbered(participant, side, ticket.security, ticket.lots, kind)
+    let ticket = proposal.ticket;
+    let kind = Kind::Offer(proposal.rate as u16, proposal.term as u16, ticket.price);
+    unnumbered(
+        proposal.participant,
+        ticket.side,
+        ticket.security,
+        ticket.lots,
+        kind,
+    )
 }
 
 // The offer as it enters, under the next numbers.
-fn offer_of(
-    participants: u64,
-    codes: [u64; 16],
-    participant: u64,
-    ticket: Ticket,
-    rate: u64,
-    term: u64,
-) -> Order
-    requires { Numberable participants codes participant × Narrow ticket.lots rate term }
-    ensures { result ≡ offer_with participants codes participant ticket rate term }
+fn offer_of(floor: &Floor, rules: &Rules, proposal: Proposal) -> Order
+    requires { Numberable rules.now.participants floor.now.codes proposal.participant × Narrow proposal }
+    ensures { result ≡ offerOf (day_of rules.now floor.now) proposal.participant proposal.ticket proposal.rate proposal.term }
 {
-    numbered(
-        participants,
-        codes,
-        offer_claim(participant, ticket, rate, term),
-    )
+    numbered(rules.participants, &floor.codes, offer_claim(proposal))
 }
 
-// The first "no" of questions 8, 24, 25, 12, 26, 13 and 14, in this order; 0 where there is none.
-fn later_no<'a>(
-    money: &'a [u64; 544],
-    pieces: &'a [u64; 544],
-    listing: Listing,
-    turnover: Turnover,
-    date: u64,
-    deals: usize,
-    count: usize,
-    own: u64,
-    participant: u64,
-    ticket: Ticket,
-    rate: u64,
-    term: u64,
-) -> u64
-    requires { Askable listing participant ticket }
-    ensures { result ≡ first_no (loan_questions listing turnover date deals count own participant ticket rate term money.now pieces.now) }
+// The first "no" of questions 8, 24, 25, 12, 26, 13 and 14, in this order.
+fn later_no(
+    floor: &Floor,
+    records: &Records,
+    rules: &Rules,
+    proposal: Proposal,
+) -> Result<(), Refusal>
+    requires { Askable (day_of rules.now floor.now) proposal.participant proposal.ticket }
+    ensures { number_in result ≡ first_no (loan_questions rules.now floor.now records.now proposal) }
 {
-    if !price_sound(listing.row, ticket.price) {
-        return 8;
+    let ticket = proposal.ticket;
+    let row = rules.listing(ticket.security).row;
+    if !price_sound(row, ticket.price) {
+        return Err(Refusal::WrongPrice);
     }
-    if !term_sound(date, term) {
-        return 24;
+    if !term_sound(records.date, proposal.term) {
+        return Err(Refusal::DayOutOfRange);
     }
-    if !loan_sound(listing.row, ticket.price, ticket.lots, rate) {
-        return 25;
+    if !loan_sound(row, ticket.price, ticket.lots, proposal.rate) {
+        return Err(Refusal::LoanOutOfRange);
     }
-    if MAX_WAITING as usize <= count {
-        return 12;
+    if MAX_WAITING as usize <= floor.count {
+        return Err(Refusal::NoRoom);
     }
-    if MAX_DEALS as usize <= deals {
-        return 26;
+    if MAX_DEALS as usize <= records.count {
+        return Err(Refusal::NoRoomForDeals);
     }
-    if MAX_OWN_CODES <= own {
-        return 13;
+    if MAX_OWN_CODES <= floor.codes[proposal.participant as usize] {
+        return Err(Refusal::NoCodeLeft);
     }
-    let claim = offer_claim(participant, ticket, rate, term);
-    if !covers(money, pieces, listing, turnover, claim) {
-        return 14;
+    let claim = offer_claim(proposal);
+    if !covers(floor, rules, claim) {
+        return Err(Refusal::NotCovered);
     }
-    0
+    Ok(())
 }
 
-// The first "no" of an offer's questions from 4 on, which read no waiting order and no deal; 0 where there is none.
-fn offer_no<'a>(
-    rules: Rules,
-    phase: Phase,
-    turnovers: [Turnover; 16],
-    count: usize,
-    codes: [u64; 16],
-    date: u64,
-    deals: usize,
-    money: &'a [u64; 544],
-    pieces: &'a [u64; 544],
-    participant: u64,
-    ticket: Ticket,
-    rate: u64,
-    term: u64,
-) -> u64
-    requires { Known rules codes }
-    ensures { OfferNo rules phase turnovers count codes date deals money.now pieces.now participant ticket rate term result }
+// The first "no" of an offer's questions from 4 on.
+fn offer_no(
+    floor: &Floor,
+    records: &Records,
+    rules: &Rules,
+    proposal: Proposal,
+) -> Result<(), Refusal>
+    requires { Standing (day_of rules.now floor.now) }
+    ensures { number_in result ≡ offer_no rules.now floor.now records.now proposal }
 {
-    let admitted = admits(phase, Access::Offer);
-    let early = early_no(
-        rules.participants,
-        rules.securities,
+    let ticket = proposal.ticket;
+    let admitted = admits(floor.phase, Access::Offer);
+    early_no(
+        rules,
         admitted,
-        participant,
-        ticket,
-    );
-    if 0 < early {
-        return early;
-    }
-    let security = ticket.security as usize;
-    let table = rules.table;
-    let row = table[security];
-    let turnover = turnovers[security];
-    let own = codes[participant as usize];
-    let listing = Listing {
-        row,
-        rate: rules.rate,
-    };
-    later_no(
-        money,
-        pieces,
-        listing,
-        turnover,
-        date,
-        deals,
-        count,
-        own,
-        participant,
-        ticket,
-        rate,
-        term,
-    )
+        proposal.participant,
+        ticket.security,
+        ticket.lots,
+    )?;
+    later_no(floor, records, rules, proposal)
 }
 
 // The deal that the lent list's first trade opens on this date.
-fn deal_in<'a>(date: u64, rate: u64, term: u64, trades: &'a [u64]) -> Deal
+fn deal_in(date: u64, rate: u64, term: u64, trades: &[u64]) -> Deal
     requires { Readable date rate term trades.now }
     ensures { result ≡ deal_in date rate term trades.now }
 {
@@ -199,155 +156,111 @@ fn deal_in<'a>(date: u64, rate: u64, term: u64, trades: &'a [u64]) -> Deal
 }
 
 // A deal more, the last.
-fn with_deal(records: Records, deal: Deal) -> Records
-    requires { records.count < max_deals }
-    ensures { Adds records (deal ∷ []) result }
+fn with_deal(records: &mut Records, deal: Deal)
+    requires { records.old.count < max_deals }
+    ensures { Adds records.old (deal ∷ []) records.new }
 {
-    let mut next = records;
-    let count = next.count;
-    next.deals[count] = deal;
-    next.count = count + 1;
-    next
+    records.deals[records.count] = deal;
+    records.count += 1;
+}
+
+// The trades that an answer counts.
+fn made_in(answer: Answer) -> u64
+    ensures { result ≡ (numbers_of answer).trades }
+{
+    match answer {
+        Answer::Done(_, _, _, trades) => trades,
+        _ => 0,
+    }
 }
 
 // The records once an offer has entered: where it made a trade, a first part, the deal of it goes last.
-fn recorded<'a>(records: Records, made: u64, rate: u64, term: u64, trades: &'a [u64]) -> Records
-    requires { (records.count < max_deals) × (0 < made → Readable records.date rate term trades.now) }
-    ensures { Adds records (deals_in made records.date rate term trades.now) result }
+fn recorded(records: &mut Records, made: u64, rate: u64, term: u64, trades: &[u64])
+    requires { (records.old.count < max_deals) × (0 < made → Readable records.old.date rate term trades.now) }
+    ensures { Adds records.old (deals_in made records.old.date rate term trades.now) records.new }
 {
     if made == 0 {
-        return records;
+        return;
     }
     let deal = deal_in(records.date, rate, term, trades);
-    with_deal(records, deal)
+    with_deal(records, deal);
 }
 
 // An offer whose questions are all answered "yes": it enters the day, and where it met another their deal goes last.
 fn entered(
-    b: OrderBook,
-    records: Records,
-    rules: Rules,
-    phase: Phase,
-    participant: u64,
-    ticket: Ticket,
-    rate: u64,
-    term: u64,
-    money: &mut [u64; 544],
-    pieces: &mut [u64; 544],
+    floor: &mut Floor,
+    records: &mut Records,
+    rules: &Rules,
+    proposal: Proposal,
     trades: &mut [u64],
-) -> Dealt
-    requires { Accepted rules phase money.old pieces.old b records participant ticket rate term trades.old }
-    ensures { CarriesAct rules phase money.old pieces.old b records trades.old (offerAct participant ticket rate term) money.new pieces.new trades.new result }
+) -> Answer
+    requires { Accepted rules.now floor.old records.old proposal trades.old }
+    ensures { CarriesAct rules.now floor.old records.old trades.old (proposed proposal) floor.new records.new trades.new result }
 {
-    let codes = b.codes;
-    let entry = offer_of(rules.participants, codes, participant, ticket, rate, term);
-    let table = rules.table;
-    let row = table[ticket.security as usize];
-    let listing = Listing {
-        row,
-        rate: rules.rate,
-    };
-    let book = enter(b, entry, listing, money, pieces, trades);
-    let next = recorded(records, book.trades, rate, term, &*trades);
-    Dealt {
-        carried: registered(book, phase),
-        records: next,
-    }
+    let entry = offer_of(floor, rules, proposal);
+    let answer = enter(floor, rules, entry, trades);
+    let made = made_in(answer);
+    recorded(records, made, proposal.rate, proposal.term, trades);
+    answer
 }
 
 // A repurchase offer.
 fn offer(
-    b: OrderBook,
-    records: Records,
-    rules: Rules,
-    phase: Phase,
-    participant: u64,
-    ticket: Ticket,
-    rate: u64,
-    term: u64,
-    money: &mut [u64; 544],
-    pieces: &mut [u64; 544],
+    floor: &mut Floor,
+    records: &mut Records,
+    rules: &Rules,
+    proposal: Proposal,
     trades: &mut [u64],
-) -> Dealt
-    requires { ReadyLedger rules phase money.old pieces.old b records }
-    ensures { CarriesAct rules phase money.old pieces.old b records trades.old (offerAct participant ticket rate term) money.new pieces.new trades.new result }
+) -> Answer
+    requires { ReadyLedger rules.now floor.old records.old }
+    ensures { CarriesAct rules.now floor.old records.old trades.old (proposed proposal) floor.new records.new trades.new result }
 {
     if trades.len() < LENT_AT_LEAST {
-        return declined(b, records, phase, 2);
+        return Answer::from(Refusal::ListTooShort);
     }
-    let turnovers = b.turnover;
-    let codes = b.codes;
-    let number = offer_no(
-        rules,
-        phase,
-        turnovers,
-        b.count,
-        codes,
-        records.date,
-        records.count,
-        &*money,
-        &*pieces,
-        participant,
-        ticket,
-        rate,
-        term,
-    );
-    if 0 < number {
-        return declined(b, records, phase, number);
+    if let Err(refusal) = offer_no(floor, records, rules, proposal) {
+        return Answer::from(refusal);
     }
-    entered(
-        b,
-        records,
-        rules,
-        phase,
-        participant,
-        ticket,
-        rate,
-        term,
-        money,
-        pieces,
-        trades,
-    )
+    entered(floor, records, rules, proposal, trades)
 }
 
 // What the second part of a deal comes to.
-pub fn part_of(rules: Rules, deal: Deal) -> Part
-    requires { RulesOk rules × (deal_sound rules deal ≡ true) }
-    ensures { result ≡ part_of rules deal }
+pub fn part_of(rules: &Rules, deal: Deal) -> Part
+    requires { RulesOk rules.now × (deal_sound rules.now deal ≡ true) }
+    ensures { result ≡ part_of rules.now deal }
 {
-    let security = from_u8(deal.security);
-    let table = rules.table;
-    let row = table[security as usize];
-    let lots = from_u16(deal.lots);
-    let first = from_u32(deal.first);
-    let term = from_u16(deal.term);
-    let sum = sum_for(row, from_u32(deal.price), lots);
+    let security = u64::from(deal.security);
+    let row = rules.table[security as usize];
+    let lots = u64::from(deal.lots);
+    let first = u64::from(deal.first);
+    let term = u64::from(deal.term);
+    let sum = sum_for(row, u64::from(deal.price), lots);
     Part {
-        buyer: from_u8(deal.buyer),
-        seller: from_u8(deal.seller),
+        buyer: u64::from(deal.buyer),
+        seller: u64::from(deal.seller),
         security,
         currency: row.currency,
         due: first + term,
         pieces: pieces_of(row, lots),
-        sum: second_sum(sum, from_u16(deal.rate), first, term),
+        sum: second_sum(sum, u64::from(deal.rate), first, term),
     }
 }
 
-// The first "no" of questions 24 and 14; 0 where there is none.
-fn part_no<'a>(date: u64, part: Part, money: &'a [u64; 544], pieces: &'a [u64; 544]) -> u64
+// The first "no" of questions 24 and 14.
+fn part_no(floor: &Floor, records: &Records, part: Part) -> Result<(), Refusal>
     requires { Payable part }
-    ensures { result ≡ first_no (part_questions date part money.now pieces.now) }
+    ensures { number_in result ≡ first_no (part_questions floor.now records.now part) }
 {
-    if date < part.due {
-        return 24;
+    if records.date < part.due {
+        return Err(Refusal::DayOutOfRange);
     }
-    if free_of(pieces, cell_of(part.buyer, part.security)) < part.pieces {
-        return 14;
+    if free_of(&floor.pieces, cell_of(part.buyer, part.security)) < part.pieces {
+        return Err(Refusal::NotCovered);
     }
-    if free_of(money, cell_of(part.seller, part.currency)) < part.sum {
-        return 14;
+    if free_of(&floor.money, cell_of(part.seller, part.currency)) < part.sum {
+        return Err(Refusal::NotCovered);
     }
-    0
+    Ok(())
 }
 
 // A free amount goes to another, who may be the same.
@@ -360,124 +273,87 @@ fn hand(positions: &mut [u64; 544], from: usize, to: usize, amount: u64)
 }
 
 // The pieces go back to the first seller, the second sum to the first buyer.
-fn pay(part: Part, money: &mut [u64; 544], pieces: &mut [u64; 544])
-    requires { Pays part money.old pieces.old }
-    ensures money_after { money.new ≡ paid_money part money.old }
-    ensures pieces_after { pieces.new ≡ paid_pieces part pieces.old }
+fn pay(floor: &mut Floor, part: Part)
+    requires { Pays part floor.old }
+    ensures { floor.new ≡ paid part floor.old }
 {
     let holder = cell_of(part.buyer, part.security);
     let taker = cell_of(part.seller, part.security);
-    hand(pieces, holder, taker, part.pieces);
+    hand(&mut floor.pieces, holder, taker, part.pieces);
     let payer = cell_of(part.seller, part.currency);
     let payee = cell_of(part.buyer, part.currency);
-    hand(money, payer, payee, part.sum);
+    hand(&mut floor.money, payer, payee, part.sum);
 }
 
 // The deal at this place has ended, and those behind it close up.
-fn ended(records: Records, at: usize) -> Records
-    requires { (at < records.count) × (records.count ≤ max_deals) }
-    ensures { Ends records at result }
+fn ended(records: &mut Records, at: usize)
+    requires { (at < records.old.count) × (records.old.count ≤ max_deals) }
+    ensures { Ends records.old at records.new }
 {
-    let mut next = records;
-    let last = next.count - 1;
-    let mut i = at;
-    while i < last {
-        let later = next.deals[i + 1];
-        next.deals[i] = later;
-        i += 1;
-    }
-    next.count = last;
-    next
+    let count = records.count;
+    records.deals.copy_within(at + 1..count, at);
+    records.count = count - 1;
 }
 
-fn second_part(
-    b: OrderBook,
-    records: Records,
-    rules: Rules,
-    phase: Phase,
-    place: u64,
-    money: &mut [u64; 544],
-    pieces: &mut [u64; 544],
-) -> Dealt
-    requires { ReadyLedger rules phase money.old pieces.old b records }
-    ensures { SecondParts rules phase money.old pieces.old b records place money.new pieces.new result }
+fn second_part(floor: &mut Floor, records: &mut Records, rules: &Rules, place: u64) -> Answer
+    requires { ReadyLedger rules.now floor.old records.old }
+    ensures { SecondParts rules.now floor.old records.old place floor.new records.new result }
 {
     if !within(1, records.count as u64, place) {
-        return declined(b, records, phase, 16);
+        return Answer::from(Refusal::NotFound);
     }
     let at = (place - 1) as usize;
-    let deal = records.deals[at];
-    let part = part_of(rules, deal);
-    let number = part_no(records.date, part, &*money, &*pieces);
-    if 0 < number {
-        return declined(b, records, phase, number);
+    let part = part_of(rules, records.deals[at]);
+    if let Err(refusal) = part_no(floor, records, part) {
+        return Answer::from(refusal);
     }
-    pay(part, money, pieces);
-    let next = ended(records, at);
-    Dealt {
-        carried: Carried {
-            answer: Answer::Done(0, 0, 0, 0),
-            phase,
-            book: b,
-        },
-        records: next,
-    }
+    pay(floor, part);
+    ended(records, at);
+    Answer::Done(0, 0, 0, 0)
 }
 
 // A later day begins, open; once closed nothing waits.
-fn new_day(b: OrderBook, records: Records, phase: Phase, date: u64) -> Dealt
-    ensures { NewDays phase b records date result }
+fn new_day(floor: &mut Floor, records: &mut Records, date: u64) -> Answer
+    ensures { NewDays floor.old records.old date floor.new records.new result }
 {
-    if !admits(phase, Access::NewDay) {
-        return declined(b, records, phase, 6);
+    if !admits(floor.phase, Access::NewDay) {
+        return Answer::from(Refusal::WrongPhase);
     }
-    if date <= records.date {
-        return declined(b, records, phase, 24);
+    if date <= records.date || LAST_DAY < date {
+        return Answer::from(Refusal::DayOutOfRange);
     }
-    if LAST_DAY < date {
-        return declined(b, records, phase, 24);
-    }
-    let mut book = b;
-    book.codes = [0; 16];
-    book.turnover = [Turnover {
+    floor.phase = Phase::Open;
+    floor.codes = [0; 16];
+    floor.turnover = [Turnover {
         pieces: 0,
         value: 0,
     }; 16];
-    let mut next = records;
-    next.date = date;
-    Dealt {
-        carried: Carried {
-            answer: Answer::Done(0, 0, 0, 0),
-            phase: Phase::Open,
-            book,
-        },
-        records: next,
-    }
+    records.date = date;
+    Answer::Done(0, 0, 0, 0)
 }
 
 // The one dispatch of acts other than a trading day's calls.
 pub fn carry_out(
-    b: OrderBook,
-    records: Records,
-    rules: Rules,
-    phase: Phase,
+    floor: &mut Floor,
+    records: &mut Records,
+    rules: &Rules,
     dealing: Dealing,
-    money: &mut [u64; 544],
-    pieces: &mut [u64; 544],
     trades: &mut [u64],
-) -> Dealt
-    requires { ReadyLedger rules phase money.old pieces.old b records }
-    ensures { CarriesAct rules phase money.old pieces.old b records trades.old (act_of dealing) money.new pieces.new trades.new result }
+) -> Answer
+    requires { ReadyLedger rules.now floor.old records.old }
+    ensures { CarriesAct rules.now floor.old records.old trades.old (act_of dealing) floor.new records.new trades.new result }
 {
     match dealing {
-        Dealing::Offer(p, ticket, rate, term) => {
-            offer(
-                b, records, rules, phase, p, ticket, rate, term, money, pieces, trades,
-            )
+        Dealing::Offer(participant, ticket, rate, term) => {
+            let proposal = Proposal {
+                participant,
+                ticket,
+                rate,
+                term,
+            };
+            offer(floor, records, rules, proposal, trades)
         }
-        Dealing::SecondPart(place) => {
-            second_part(b, records, rules, phase, place, money, pieces)
-        }
-        Dealing::NewDay(date) => new_day(b, records, phase, date),
+        Dealing::SecondPart(place) => second_part(floor, records, rules, place),
+        Dealing::NewDay(date) => new_day(floor, records, date),
     }
 }

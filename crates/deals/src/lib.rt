@@ -8,7 +8,7 @@ ghost use Rattle.market.specs.Deals.{loan_sound, term_sound};
 ghost use Rattle.market.specs.Ledger.{first_deals, records_sound};
 ghost use Rattle.deals.specs.Parts.{dealt_sound};
 
-use amounts::{from_u8, from_u16, from_u32, price_sound, sum_for, within};
+use amounts::{price_sound, sum_for, within};
 use market::{
     Deal, LAST_DAY, MAX_DEALS, MAX_FIRST_SUM, MAX_LOTS, MAX_OFFER_RATE, MAX_TERM, Records, Rules,
     Security,
@@ -18,13 +18,7 @@ use market::{
 pub fn term_sound(first: u64, term: u64) -> bool
     ensures { result ≡ term_sound first term }
 {
-    if !within(1, MAX_TERM, term) {
-        return false;
-    }
-    if LAST_DAY - term < first {
-        return false;
-    }
-    true
+    within(1, MAX_TERM, term) && first <= LAST_DAY - term
 }
 
 // Question 25: are rate and first sum in range?
@@ -32,69 +26,62 @@ pub fn loan_sound(row: Security, price: u64, lots: u64, rate: u64) -> bool
     requires { (row.lot ≤ max_lot) × (row.nominal ≤ max_nominal) × (price ≤ max_price) × (lots ≤ max_lots) }
     ensures { result ≡ loan_sound row price lots rate }
 {
-    if MAX_OFFER_RATE < rate {
-        return false;
-    }
-    sum_for(row, price, lots) <= MAX_FIRST_SUM
+    rate <= MAX_OFFER_RATE && sum_for(row, price, lots) <= MAX_FIRST_SUM
 }
 
-// All of a deal but its security, which is known.
+// All of a deal but its security, which is known. One at a time: joined by `&&` the proof didn't close.
 fn deal_sound(participants: u64, row: Security, deal: Deal) -> bool
     requires { (0 < row.step) × (row.lot ≤ max_lot) × (row.nominal ≤ max_nominal) }
     ensures { result ≡ dealt_sound participants row deal }
 {
-    if participants <= from_u8(deal.buyer) {
+    if participants <= u64::from(deal.buyer) {
         return false;
     }
-    if participants <= from_u8(deal.seller) {
+    if participants <= u64::from(deal.seller) {
         return false;
     }
-    let lots = from_u16(deal.lots);
+    let lots = u64::from(deal.lots);
     if !within(1, MAX_LOTS, lots) {
         return false;
     }
-    let price = from_u32(deal.price);
+    let price = u64::from(deal.price);
     if !price_sound(row, price) {
         return false;
     }
-    if !term_sound(from_u32(deal.first), from_u16(deal.term)) {
+    if !term_sound(u64::from(deal.first), u64::from(deal.term)) {
         return false;
     }
-    loan_sound(row, price, lots, from_u16(deal.rate))
+    loan_sound(row, price, lots, u64::from(deal.rate))
 }
 
-// A date of the table, and at most 64 deals, each sound, oldest first and none from a later day.
-pub fn records_sound(rules: Rules, records: Records) -> bool
-    requires { rules_sound rules ≡ true }
-    ensures { result ≡ records_sound rules records.date (first_deals records.count records.deals) }
+// A date of the table, and at most 64 deals, each sound, oldest first and none from a later day. By place: over a slice of
+// the deals the proof didn't close.
+pub fn records_sound(rules: &Rules, records: &Records) -> bool
+    requires { rules_sound rules.now ≡ true }
+    ensures { result ≡ records_sound rules.now records.now.date (first_deals records.now.count records.now.deals) }
 {
     if LAST_DAY < records.date {
         return false;
     }
-    let count = records.count;
-    if MAX_DEALS < count as u64 {
+    if MAX_DEALS < records.count as u64 {
         return false;
     }
-    let table = rules.table;
-    let deals = records.deals;
     let mut last: u64 = 0;
-    let mut i: usize = 0;
-    while i < count {
-        let deal = deals[i];
-        let first = from_u32(deal.first);
+    for i in 0..records.count {
+        let deal = records.deals[i];
+        let first = u64::from(deal.first);
         if first < last {
             return false;
         }
-        let security = from_u8(deal.security);
+        let security = u64::from(deal.security);
         if rules.securities <= security {
             return false;
         }
-        let row = table[security as usize];
+        let row = rules.table[security as usize];
         if !deal_sound(rules.participants, row, deal) {
             return false;
         }
         last = first;
-        i += 1;
     }
     last <= records.date
 }

@@ -8,19 +8,15 @@ ghost use Rattle.market.specs.Calls.{no_tickets};
 ghost use Rattle.market.specs.Acts.{cancel as cancelCall, closing_order, decrease, end_collecting, end_session};
 ghost use Rattle.market.specs.Acts.{increase, linked as linkedCall, new_day, offer, order, second_part, start_closing, start_collecting};
 ghost use Rattle.market.specs.LedgerParts.{act_of, call_of};
-ghost use Rattle.market.specs.Ledger.{around, ledger_sound};
+ghost use Rattle.market.specs.Ledger.{ledger_sound, whole};
 ghost use Rattle.market.specs.Contract.{Does, Opens};
-ghost use Rattle.soundness.specs.Parts.{lent_day};
 
 use deals::records_sound;
 use market::{
-    Answer, Call, Dealing, Move, Outcome, Rules, Security, Session, Side, State, Ticket,
-    TimeInForce, book_of, refused, rules_of, state_with,
+    Answer, Call, Dealing, Move, Outcome, Refusal, Rules, Security, Session, Side, State, Ticket,
+    TimeInForce,
 };
-use soundness::lent_sound;
-
-// Question 1.
-const UNSOUND: u64 = 1;
+use soundness::floor_sound;
 
 pub fn opening(
     participants: u64,
@@ -56,85 +52,51 @@ fn no_tickets() -> [Ticket; 8]
     }; 8]
 }
 
-// Question 1, of the day and of its records; the positions are lent.
-fn is_sound<'a>(s: State, money: &'a [u64; 544], pieces: &'a [u64; 544]) -> bool
-    ensures { result ≡ ledger_sound (around (lent_day s money.now pieces.now) s.records) }
+// Question 1, of the day and of its records.
+fn is_sound(s: &State) -> bool
+    ensures { result ≡ ledger_sound (whole s.now) }
 {
-    if !lent_sound(s, money, pieces) {
-        return false;
-    }
-    let records = s.records;
-    records_sound(rules_of(s), records)
+    floor_sound(&s.rules, &s.floor) && records_sound(&s.rules, &s.records)
 }
 
-// Any call of a trading day: question 1, then the call on the parts of the state, which are joined again. A group's members
-// stand beside the call; trades stand from the start of the lent list on.
-pub fn call(s: State, call: Call, members: [Ticket; 8], trades: &mut [u64]) -> Outcome
-    ensures { Does s trades.old (call_of call members) result trades.new }
+// Any call of a trading day, on the state where it lies: question 1, then the call. A group's members stand beside it; trades
+// stand from the start of the lent list on.
+pub fn call_in_place(s: &mut State, call: Call, members: &[Ticket; 8], trades: &mut [u64]) -> Answer
+    ensures { Does s.old trades.old (call_of call members.now) (record { answer = result; state = s.new }) trades.new }
 {
-    let mut money = s.money;
-    let mut pieces = s.pieces;
-    if !is_sound(s, &money, &pieces) {
-        return refused(s, UNSOUND);
+    s.sized();
+    if !is_sound(s) {
+        return Answer::from(Refusal::Unsound);
     }
-    let phase = s.phase;
-    let carried = calls::carry_out(
-        book_of(s),
-        rules_of(s),
-        phase,
-        call,
-        members,
-        &mut money,
-        &mut pieces,
-        trades,
-    );
-    let answer = carried.answer;
-    let Answer::Done(_, _, _, _) = answer else {
-        return Outcome { answer, state: s };
-    };
-    // In a function of its own, for `deal` too, this would copy the state once more.
-    let next = carried.phase;
-    let after = carried.book;
-    let records = s.records;
-    Outcome {
-        answer,
-        state: state_with(s, next, money, pieces, after, records),
-    }
+    calls::carry_out(&mut s.floor, &s.rules, call, members, trades)
 }
 
 // Any act on the records, in the same way.
+pub fn deal_in_place(s: &mut State, dealing: Dealing, trades: &mut [u64]) -> Answer
+    ensures { Does s.old trades.old (act_of dealing) (record { answer = result; state = s.new }) trades.new }
+{
+    s.sized();
+    if !is_sound(s) {
+        return Answer::from(Refusal::Unsound);
+    }
+    dealings::carry_out(&mut s.floor, &mut s.records, &s.rules, dealing, trades)
+}
+
+// The same calls and acts, the state by value.
+pub fn call(s: State, call: Call, members: [Ticket; 8], trades: &mut [u64]) -> Outcome
+    ensures { Does s trades.old (call_of call members) result trades.new }
+{
+    let mut state = s;
+    let answer = call_in_place(&mut state, call, &members, trades);
+    Outcome { answer, state }
+}
+
 pub fn deal(s: State, dealing: Dealing, trades: &mut [u64]) -> Outcome
     ensures { Does s trades.old (act_of dealing) result trades.new }
 {
-    let mut money = s.money;
-    let mut pieces = s.pieces;
-    if !is_sound(s, &money, &pieces) {
-        return refused(s, UNSOUND);
-    }
-    let phase = s.phase;
-    let records = s.records;
-    let dealt = dealings::carry_out(
-        book_of(s),
-        records,
-        rules_of(s),
-        phase,
-        dealing,
-        &mut money,
-        &mut pieces,
-        trades,
-    );
-    let carried = dealt.carried;
-    let answer = carried.answer;
-    let Answer::Done(_, _, _, _) = answer else {
-        return Outcome { answer, state: s };
-    };
-    let next = carried.phase;
-    let after = carried.book;
-    let kept = dealt.records;
-    Outcome {
-        answer,
-        state: state_with(s, next, money, pieces, after, kept),
-    }
+    let mut state = s;
+    let answer = deal_in_place(&mut state, dealing, trades);
+    Outcome { answer, state }
 }
 
 // A call that has no members and is lent no list.

@@ -9,64 +9,57 @@ ghost use Rattle.dayfile.specs.Run.{Prints};
 
 use commands::{ROOM, goes_on, put_command};
 use dayfile::begin;
-use heading::MALFORMED;
+use engine::call_in_place;
 use lines::Line;
-use market::{Answer, State};
+use market::{Answer, Refusal, State};
 use printing::put_positions;
 use reading::command_at;
 
 // The positions of a state, from place `at` of the buffer on.
-fn last_lines(s: State, at: usize, out: &mut [u8]) -> usize
-    requires s_value { sound (view s) ≡ true }
+fn last_lines(s: &State, at: usize, out: &mut [u8]) -> usize
+    requires s_value { sound (view s.now) ≡ true }
     requires room_in_bounds { at + room ≤ length out.old }
-    ensures { Puts out.old at (position_lines (view s)) out.new result }
+    ensures { Puts out.old at (position_lines (view s.now)) out.new result }
 {
-    let money = s.money;
-    let pieces = s.pieces;
     put_positions(
         out,
         at,
-        s.participants,
-        s.currencies,
-        s.securities,
-        &money,
-        &pieces,
+        s.rules.participants,
+        s.rules.currencies,
+        s.rules.securities,
+        &s.floor.money,
+        &s.floor.pieces,
     )
 }
 
-// The whole day as `dayfile::whole_day` prints it, its commands by the public call.
+// The whole day as `dayfile::whole_day` prints it, its commands by the public call: the loop is that of `commands` on a
+// call whose contract differs. 0, no Option: `Prints` says so.
 pub fn whole_day(text: &[u8], out: &mut [u8]) -> usize
     ensures { Prints text.now out.old result out.new }
 {
-    let r = begin(text, out);
-    if r.over {
-        return r.filled;
+    let mut run = begin(text, out);
+    if run.over {
+        return run.filled;
     }
-    let mut trades = [0u64; 1088];
-    let mut s = r.state;
     // A run tells of its day alone, and the public call asks for sound records: those of an opening on day 0.
-    s.records.date = 0;
-    s.records.count = 0;
-    let mut at = r.at;
-    let mut line = r.line;
-    let mut filled = r.filled;
-    while goes_on(text.len(), at, out.len(), filled) {
-        let reading = command_at(text, at);
-        let says = reading.says;
-        let mut answer = Answer::Refused(MALFORMED, 0);
-        if let Line::Call(call) = says {
-            let members = reading.members;
-            let outcome = engine::call(s, call, members, &mut trades);
-            answer = outcome.answer;
-            s = outcome.state;
-        }
-        filled = put_command(out, filled, line, answer, &trades);
-        at = reading.next;
-        line = line + reading.lines;
+    run.state.records.date = 0;
+    run.state.records.count = 0;
+    let mut trades = [0u64; 1088];
+    while goes_on(text.len(), run.at, out.len(), run.filled) {
+        let reading = command_at(text, run.at);
+        let answer = match reading.says {
+            Line::Call(call) => {
+                call_in_place(&mut run.state, call, &reading.members, &mut trades)
+            }
+            _ => Answer::from(Refusal::Malformed),
+        };
+        run.filled = put_command(out, run.filled, run.line, answer, &trades);
+        run.at = reading.next;
+        run.line += reading.lines;
     }
-    if out.len() - ROOM < filled {
+    if out.len() - ROOM < run.filled {
         return 0;
     }
     // With room left, the commands stopped after the last of them.
-    last_lines(s, filled, out)
+    last_lines(&run.state, run.filled, out)
 }

@@ -32,8 +32,8 @@ use Rattle.reading.specs.Commands.{Reads}
 use Rattle.heading.specs.declared.Headed as code
 use Rattle.heading.specs.declared.Securities.{Securities}
 use Rattle.heading.specs.Heading.{Headed, ReadsAs, ReadsHeading, ReadsLines, ReadsSecurities, WrongHeading}
-use Rattle.heading.specs.Heading.{fault, headed_by, heading, lines_in, no_table, opened_by, read, securities_from}
-use Rattle.heading.proofs.SecurityLines.{lines_fault}
+use Rattle.heading.specs.Heading.{fault, headed_by, heading, opened_by}
+use Rattle.std.specs.Prelude.{Ok, Err}
 
 -- the place of an opening's refusal is one of its securities
 wrong_within : (r : Rules) (n s : ℕ) → first_wrong r n s ≤ s + n
@@ -120,39 +120,33 @@ module _ {text : List ℕ} {first : Reading} (reads : Reads text 0 first) where
   heading_is {p} {c} {s} {r} e h = subst (λ (x : Headed). ReadsAs x text r) (sym (heading_reads ∙ rw e)) h
 
 -- the `S` lines from `from` on
-module _ (p c : ℕ) {text : List ℕ} {from s : ℕ} {lines : Securities} (l : ReadsSecurities text from s lines) where
-  abbrev whole : Headed
-  whole = opened_by p c s (securities_from s 0 no_table (drop from text))
-
-  heading_lines : whole ≡ opened_by p c s (lines_in lines.fault lines.table (drop lines.next text))
-  heading_lines = ap (opened_by p c s) (sym l.lines)
-
-  pub lines_wrong : {r : code.Headed} → (lines.fault ≡ 0 → ⊥) → WrongHeading lines.fault r
+module _ (p c : ℕ) {text : List ℕ} {from s : ℕ} where
+  pub lines_wrong : {n : ℕ} {r : code.Headed} → ReadsSecurities text from s (Err n) → WrongHeading n r
       → ReadsLines text from p c s r
-  lines_wrong some w =
-      reads_fault (heading_lines ∙ ap (opened_by p c s) (lines_fault lines.fault lines.table _ some)) w
+  lines_wrong l w = reads_fault (ap (opened_by p c s) (sym l.lines)) w
 
-  abbrev rules : Rules
-  rules = record { participants = p; currencies = c; securities = s; table = lines.table; rate = 0 }
+  module _ {lines : Securities} (l : ReadsSecurities text from s (Ok lines)) where
+    abbrev rules : Rules
+    rules = record { participants = p; currencies = c; securities = s; table = lines.table; rate = 0 }
 
-  module _ (none : lines.fault ≡ 0) {o : Outcome} (dated : Opens rules 0 o) where
-    opens : OpensPlain rules o
-    opens = opens_plain dated
+    module _ {o : Outcome} (dated : Opens rules 0 o) where
+      opens : OpensPlain rules o
+      opens = opens_plain dated
 
-    pub lines_open : {place : ℕ} → place ≡ (numbers_of o.answer).place
-        → ReadsLines text from p c s (record { outcome = o; line = place + 1; next = s + 2; at = lines.next })
-    lines_open {place} same =
-        let h : whole ≡ opened_by p c s (read lines.table (drop lines.next text)) = heading_lines ∙ rw none in
-        record {
-          line = rw (h, same, opens.answer) (add-one _);
-          answer = rw h opens.answer;
-          day = rw h opens.state;
-          rest = λ done. rw h;
-          next = λ done. rw h;
-          inside = λ done. l.inside none (opening_some rules (accepts done));
-          sound = λ done. rw opens.state (opening_sound rules (accepts done));
-          few = λ done. omega (arith, (accepted rules (accepts done)).rules.securities);
-        }
-      where
-        accepts : is_done o.answer ≡ true → is_done (opening rules).answer ≡ true
-        accepts done = rw opens.answer at done
+      pub lines_open : {place : ℕ} → place ≡ (numbers_of o.answer).place
+          → ReadsLines text from p c s (record { outcome = o; line = place + 1; next = s + 2; at = lines.next })
+      lines_open {place} same =
+          let h = ap (opened_by p c s) (sym l.lines) in
+          record {
+            line = rw (h, same, opens.answer) (add-one _);
+            answer = rw h opens.answer;
+            day = rw h opens.state;
+            rest = λ done. rw h;
+            next = λ done. rw h;
+            inside = λ done. l.inside (opening_some rules (accepts done));
+            sound = λ done. rw opens.state (opening_sound rules (accepts done));
+            few = λ done. omega (arith, (accepted rules (accepts done)).rules.securities);
+          }
+        where
+          accepts : is_done o.answer ≡ true → is_done (opening rules).answer ≡ true
+          accepts done = rw opens.answer at done

@@ -1,5 +1,5 @@
 -- The `S` lines of a heading, one after another.
-use Prim.Native.Nat.{ℕ, zero, suc, ◌+◌, ◌-◌, ◌≤◌, ◌<◌}
+use Prim.Native.Nat.{ℕ, suc, ◌+◌, ◌-◌, ◌≤◌, ◌<◌}
 use native.Mathlib.Numerals.{add-one}
 use native.Mathlib.Omega.{arith}
 use mathlib.Core.Path.{◌≡◌, refl, ap, sym, ◌∙◌}
@@ -11,8 +11,9 @@ use Rattle.lines.specs.declared.Line.{Line}
 use Rattle.lines.specs.declared.Line.TheVariants as line
 use Rattle.reading.specs.declared.Reading.{Reading}
 use Rattle.reading.specs.Commands.{Reads, yield}
-use Rattle.heading.specs.Heading.{Lines, ReadsSecurities, lines_in, max_text, no_table, securities_from}
+use Rattle.heading.specs.Heading.{Lines, ReadsSecurities, max_text, no_table, securities_from}
 use Rattle.heading.specs.Heading.{security_by, wrong}
+use Rattle.std.specs.Prelude.{Ok, Err}
 
 -- a line that is no security's
 no_security_lem : (says : Line) (n : ℕ) (next : Security → Lines)
@@ -33,11 +34,6 @@ securities_line : (n i : ℕ) (table : List Security) (t : List ℕ) → 0 < len
 unfolding securities_from
 securities_line n i table [] h = absurd (omega arith)
 securities_line n i table (x ∷ t) h = refl
-
--- the code's lines with a fault
-pub lines_fault : (n : ℕ) (table : List Security) (t : List ℕ) → (n ≡ 0 → ⊥) → lines_in n table t ≡ wrong n
-lines_fault zero table t h = absurd (h refl)
-lines_fault (suc n) table t h = refl
 
 -- i of n `S` lines are read, and the text goes on at `at`
 pub record Passed (text : List ℕ) (from n : ℕ) (table : List Security) (at i : ℕ) : Type 0 where
@@ -64,14 +60,14 @@ passed_none text from n short =
     }
 
 module _ {text : List ℕ} {from n : ℕ} {table : List Security} {at i : ℕ} (p : Passed text from n table at i) where
-  pub passed_end : n ≤ i → ReadsSecurities text from n (record { fault = 0; table = table; next = at })
+  pub passed_end : n ≤ i → ReadsSecurities text from n (Ok (record { table = table; next = at }))
   unfolding securities_from
   passed_end h =
       let none : n - i ≡ 0 = omega arith in
       record {
         lines = (rw none) ∙ p.rest;
-        few = λ e. omega (arith, p.few);
-        inside = λ e k. p.inside (omega arith);
+        few = omega (arith, p.few);
+        inside = λ k. p.inside (omega arith);
       }
 
   module _ (h : i < n) where
@@ -81,15 +77,11 @@ module _ {text : List ℕ} {from n : ℕ} {table : List Security} {at i : ℕ} (
         ap (λ (k : ℕ). securities_from k i table (drop at text)) one ∙ p.rest
 
     fault_here : securities_from (suc (n - suc i)) i table (drop at text) ≡ wrong (i + 2)
-        → ReadsSecurities text from n (record { fault = i + 2; table = table; next = at })
-    fault_here e = record {
-      lines = lines_fault (i + 2) table (drop at text) (λ none. omega arith) ∙ sym e ∙ all;
-      few = λ e2. absurd (omega arith);
-      inside = λ e2. absurd (omega arith);
-    }
+        → ReadsSecurities text from n (Err (i + 2))
+    fault_here e = record { lines = sym e ∙ all; few = tt; inside = tt }
 
     pub passed_missing : length text ≤ at
-        → ReadsSecurities text from n (record { fault = i + 2; table = table; next = at })
+        → ReadsSecurities text from n (Err (i + 2))
     passed_missing k =
         fault_here (ap (securities_from (suc (n - suc i)) i table) (drop_of_length-le text {i = at} k)
         ∙ securities_missing (n - suc i) i table)
@@ -103,7 +95,7 @@ module _ {text : List ℕ} {from n : ℕ} {table : List Security} {at i : ℕ} (
           (securities_line (n - suc i) i table (drop at text) (simp length-drop (omega arith)))
 
       pub passed_wrong : ((currency lot step : ℕ) → r.says ≡ line.Security currency lot step → ⊥)
-          → ReadsSecurities text from n (record { fault = i + 2; table = table; next = at })
+          → ReadsSecurities text from n (Err (i + 2))
       passed_wrong other = fault_here (line_here ∙ no_security_lem r.says (i + 2) _ other)
 
       pub passed_next : {currency lot step : ℕ} {table' : List Security}
@@ -122,3 +114,6 @@ module _ {text : List ℕ} {from n : ℕ} {table : List Security} {at i : ℕ} (
             cells = ap length t ∙ length-set table i row ∙ p.cells;
             rest = rw (t, add-one i) (sym (line_here ∙ rw e) ∙ all);
           }
+
+-- what `heading::securities_at` goes by
+pub ruleset security_lines = (passed_none, passed_end, passed_missing, passed_wrong, passed_next)

@@ -1,5 +1,5 @@
 -- The heading of a day file: an `H` line, and as many `S` lines as it says.
-use Rattle.std.specs.Prelude.{ℕ, zero, suc, ◌+◌, ◌≤◌, ◌<◌, ◌≡◌, List, [], ◌∷◌, true, drop, length, replicate, set}
+use Rattle.std.specs.Prelude.{ℕ, zero, suc, ◌+◌, ◌≤◌, ◌<◌, ◌≡◌, List, [], ◌∷◌, true, drop, length, replicate, set, Result, Ok, Err, IfOk}
 use Rattle.market.specs.declared.Answer.{Answer}
 use Rattle.market.specs.declared.Answer.TheVariants.{Refused}
 use Rattle.market.specs.declared.Security.{Security}
@@ -81,16 +81,16 @@ headed_by line.Malformed t = fault 1
 unfoldable pub heading : List ℕ → Headed
 heading t = headed_by (yield t).says (yield t).rest
 
--- the `S` lines as the code holds them: the line of the first fault, or 0
-abbrev pub lines_in : ℕ → List Security → List ℕ → Lines
-lines_in zero table t = read table t
-lines_in (suc n) table t = wrong (suc n)
+-- the `S` lines as the code holds them: the securities and the place of the text after them, or the line of the first fault
+abbrev pub lines_in : List ℕ → Result Securities ℕ → Lines
+lines_in text (Ok r) = read r.table (drop r.next text)
+lines_in text (Err n) = wrong n
 
 -- n `S` lines from `from` on
-pub record ReadsSecurities (text : List ℕ) (from n : ℕ) (r : Securities) : Type 0 where
-  pub lines : lines_in r.fault r.table (drop r.next text) ≡ securities_from n 0 no_table (drop from text)
-  pub few : r.fault ≡ 0 → n ≤ length text
-  pub inside : r.fault ≡ 0 → 0 < n → r.next ≤ length text
+pub record ReadsSecurities (text : List ℕ) (from n : ℕ) (r : Result Securities ℕ) : Type 0 where
+  pub lines : lines_in text r ≡ securities_from n 0 no_table (drop from text)
+  pub few : IfOk r (λ s. n ≤ length text)
+  pub inside : IfOk r (λ s. 0 < n → s.next ≤ length text)
 
 -- a heading with a fault on line n
 pub record WrongHeading (n : ℕ) (r : code.Headed) : Type 0 where

@@ -6,17 +6,16 @@ ghost use Rattle.market.specs.Answers.{numbers_of};
 ghost use Rattle.heading.specs.Heading.{ReadsHeading, ReadsLines, ReadsSecurities, WrongHeading, max_text};
 
 use lines::Line;
-use market::{Answer, MAX_SECURITIES, Outcome, Rules, Security};
+use market::{Answer, MAX_SECURITIES, Outcome, Refusal, Rules, Security};
 use opening::refused_opening;
 use reading::command_at;
 
 // A malformed line, or one out of its place.
-pub const MALFORMED: u64 = 19;
+pub const MALFORMED: u64 = Refusal::Malformed as u64;
 
-// The `S` lines of a heading: the line of the first fault or 0, and the place where the text goes on.
+// The `S` lines of a heading, and the place where the text goes on.
 #[derive(Clone, Copy)]
 pub struct Securities {
-    pub fault: u64,
     pub table: [Security; 16],
     pub next: usize,
 }
@@ -30,15 +29,9 @@ pub struct Headed {
     pub at: usize,
 }
 
-// `S` lines whose first fault stands on this line.
-fn wrong_securities(fault: u64, table: [Security; 16], next: usize) -> Securities
-    ensures { result ≡ record { fault = fault; table = table; next = next } }
-{
-    Securities { fault, table, next }
-}
-
-// The lines of n securities; more than 16 keep their form, and the opening refuses them.
-fn securities_at(text: &[u8], from: usize, n: u64) -> Securities
+// The lines of n securities, or the line of the first fault; more than 16 keep their form, and the opening refuses them.
+#[tactic(auto, using(crate::proofs::SecurityLines::security_lines))]
+fn securities_at(text: &[u8], from: usize, n: u64) -> Result<Securities, u64>
     requires { length text.now ≤ max_text }
     ensures { ReadsSecurities text.now from n result }
 {
@@ -49,16 +42,14 @@ fn securities_at(text: &[u8], from: usize, n: u64) -> Securities
         nominal: 0,
     };
     let mut table = [none; 16];
-    let mut at = from;
-    let mut i: u64 = 0;
-    while i < n {
-        if text.len() <= at {
-            return wrong_securities(i + 2, table, at);
+    let mut next = from;
+    for i in 0..n {
+        if text.len() <= next {
+            return Err(i + 2);
         }
-        let reading = command_at(text, at);
-        let says = reading.says;
-        let Line::Security(currency, lot, step) = says else {
-            return wrong_securities(i + 2, table, at);
+        let reading = command_at(text, next);
+        let Line::Security(currency, lot, step) = reading.says else {
+            return Err(i + 2);
         };
         if i < MAX_SECURITIES {
             table[i as usize] = Security {
@@ -68,14 +59,9 @@ fn securities_at(text: &[u8], from: usize, n: u64) -> Securities
                 nominal: 0,
             };
         }
-        i += 1;
-        at = reading.next;
+        next = reading.next;
     }
-    Securities {
-        fault: 0,
-        table,
-        next: at,
-    }
+    Ok(Securities { table, next })
 }
 
 // A heading whose first fault stands on this line.
@@ -90,13 +76,13 @@ pub fn wrong_heading(line: u64) -> Headed
     }
 }
 
-// The place of a refusal; 0 where the call is accepted.
+// The place of a refusal; 0 where the call is accepted, as `numbers_of` says.
 pub fn place_of(answer: Answer) -> u64
     ensures { result ≡ (numbers_of answer).place }
 {
     match answer {
         Answer::Refused(_, place) => place,
-        Answer::Done(_, _, _, _) => 0,
+        _ => 0,
     }
 }
 
@@ -111,10 +97,10 @@ fn opened_with(
     requires { length text.now ≤ max_text }
     ensures { ReadsLines text.now from participants currencies securities result }
 {
-    let lines = securities_at(text, from, securities);
-    if lines.fault != 0 {
-        return wrong_heading(lines.fault);
-    }
+    let lines = match securities_at(text, from, securities) {
+        Ok(lines) => lines,
+        Err(line) => return wrong_heading(line),
+    };
     let table = lines.table;
     let outcome = opening::opening(
         Rules {
@@ -126,10 +112,9 @@ fn opened_with(
         },
         0,
     );
-    let answer = outcome.answer;
     Headed {
         outcome,
-        line: place_of(answer) + 1,
+        line: place_of(outcome.answer) + 1,
         next: securities + 2,
         at: lines.next,
     }
@@ -141,8 +126,7 @@ pub fn heading_of(text: &[u8]) -> Headed
     ensures { ReadsHeading text.now result }
 {
     let reading = command_at(text, 0);
-    let says = reading.says;
-    let Line::Heading(participants, currencies, securities) = says else {
+    let Line::Heading(participants, currencies, securities) = reading.says else {
         return wrong_heading(1);
     };
     opened_with(text, reading.next, participants, currencies, securities)

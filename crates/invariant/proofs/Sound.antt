@@ -6,9 +6,8 @@ use mathlib.Core.List.{List}
 use mathlib.Core.Bool.{true}
 use lib.ListN.{length}
 use borrow.Author.Tests.{eqb-true, eq-eqb, leb-true, ltb-true, le-leb, lt-ltb}
+use Rattle.market.specs.declared.Floor.{Floor}
 use Rattle.market.specs.declared.Order.{Order}
-use Rattle.market.specs.declared.OrderBook.{OrderBook}
-use Rattle.market.specs.declared.Phase.{Phase}
 use Rattle.market.specs.Limits.{columns, max_lots, max_waiting, position_numbers}
 use Rattle.market.specs.Tests.{◌=?◌, ◌≤?◌, all_below}
 use Rattle.market.specs.declared.Rules.{Rules}
@@ -141,5 +140,5 @@ pub by_arrival : (d : Day) → Sized d → sound d ≡ true → (i j : ℕ) → 
     → arrival_of (order_at d.waiting i) < arrival_of (order_at d.waiting j)
 by_arrival d size e i j = place_arrival 0 (given d) d.waiting i j (sound_standing d size e).codes.arrivals
 
-pub ready_standing : {r : Rules} {x : Phase} {m k : List ℕ} {b : OrderBook} → Ready r x m k b → Standing (day_of r x m k b)
-ready_standing {r} {x} {m} {k} {b} g = sound_standing (day_of r x m k b) g.sized g.sound
+pub ready_standing : {r : Rules} {f : Floor} → Ready r f → Standing (day_of r f)
+ready_standing {r} {f} g = sound_standing (day_of r f) g.sized g.sound

@@ -12,7 +12,7 @@ use borrow.Author.Tests.{le-leb, ne_eqb}
 use Rattle.market.specs.Tests.{◌and◌, all_of}
 use Rattle.market.proofs.Logic.{and_true, both, within_high, within_low}
 use Rattle.lines.specs.declared.Part.TheVariants.{Number}
-use Rattle.lines.specs.declared.Value.TheVariants.{Good, Wrong}
+use Rattle.std.specs.Prelude.{Some, None}
 use Rattle.lines.specs.Line.{value}
 use Rattle.lines.specs.Text.{is_digit, is_number, no_leading_zero, value_from, value_of}
 
@@ -34,15 +34,15 @@ is_number_lem field e =
       leading = rest.1;
     }
 
-pub not_number : (field : List ℕ) → (IsNumber field → ⊥) → Wrong ≡ value Number field
+pub not_number : (field : List ℕ) → (IsNumber field → ⊥) → None ≡ value Number field
 unfolding value
 not_number field h = go (is_number field) refl
   where
-    go : (z : Bool) → is_number field ≡ z → Wrong ≡ cond z (Good (value_of field)) Wrong
+    go : (z : Bool) → is_number field ≡ z → None ≡ cond z (Some (value_of field)) None
     go true e = absurd (h (is_number_lem field e))
     go false e = refl
 
-number : (field : List ℕ) → IsNumber field → Good (value_of field) ≡ value Number field
+number : (field : List ℕ) → IsNumber field → Some (value_of field) ≡ value Number field
 unfolding value is_number
 number field n =
     let size = both (le-leb 1 (length field) n.low) (le-leb (length field) 16 n.high) in
@@ -84,7 +84,7 @@ module _ {field : List ℕ} {v i : ℕ} (r : Read field v i) (more : i < length 
       let most = pow-le-pow_right {n = 10} (omega arith) {i = i} {j = 15} (omega arith) in
       omega (arith, r.small)
 
-  pub no_digit : (is_digit (get_or field i 0) ≡ true → ⊥) → Wrong ≡ value Number field
+  pub no_digit : (is_digit (get_or field i 0) ≡ true → ⊥) → None ≡ value Number field
   no_digit h =
       not_number field (λ n.
       let all : all_of is_digit (drop i field) ≡ true = r.digits ∙ n.digits in
@@ -102,7 +102,7 @@ module _ {field : List ℕ} {v i : ℕ} (r : Read field v i) (more : i < length 
       }
 
 pub read_all : {field : List ℕ} {v i : ℕ} → Read field v i → length field ≤ i
-    → 1 ≤ length field → length field ≤ 16 → no_leading_zero field ≡ true → Good v ≡ value Number field
+    → 1 ≤ length field → length field ≤ 16 → no_leading_zero field ≡ true → Some v ≡ value Number field
 unfolding value_from
 read_all {field} {v} {i} r h low high leading =
     let none = drop_of_length-le field {i = i} h in
@@ -110,3 +110,6 @@ read_all {field} {v} {i} r h low high leading =
     let digits : true ≡ all_of is_digit field = rw none at r.digits in
     let all : IsNumber field = record { low = low; high = high; digits = sym digits; leading = leading } in
     rw same (number field all)
+
+-- what `lines::number` goes by
+pub ruleset digits = (not_number, few, read_none, no_digit, read_next, read_all, one_digit, other_digit, leading_zero)

@@ -71,3 +71,6 @@ unfolding index_of
 found_nowhere b i to text low high =
     let size = length-take-le to text high in
     rw (drop_of_length-le (take to text) {i = i} (omega (arith, size)))
+
+-- what `lines::find` goes by
+pub ruleset first_places = (found_here, found_later, found_nowhere)

@@ -1,5 +1,4 @@
 pub mod Digits
-pub mod Letters
 pub mod Finding
 pub mod Rows
 pub mod Fields

@@ -1,32 +1,13 @@
 -- Laws of the table of forms.
 use Prim.Native.Nat.{ℕ, ◌≤◌}
-use mathlib.Core.Logic.{◌⊎◌, inl, inr, ⊎_elim}
 use mathlib.Core.Path.{◌≡◌, refl}
 use mathlib.Core.List.{List, [], ◌∷◌}
 use mathlib.Core.Bool.{Bool, true, false, cond, not}
 use lib.ListN.{length}
-use borrow.Author.Tests.{leb-true, ne_eqb}
+use borrow.Author.Tests.{leb-true}
 use Rattle.market.specs.Tests.{◌and◌, ◌≤?◌, ◌=?◌, all_of}
 use Rattle.market.proofs.Logic.{and_true}
-use Rattle.market.proofs.Lists.{All}
-use Rattle.lines.specs.declared.Part.{Part}
 use Rattle.lines.specs.Forms.{Row, is_nothing, no_row, row_in, row_of, table}
-
--- no row has this letter
-pub no_row_lem : (letter : ℕ) (rows : List Row) → All (λ r. letter ≡ r.letter → ⊥) rows
-    → row_in letter rows ≡ no_row
-unfolding row_in
-no_row_lem letter [] h = refl
-no_row_lem letter (r ∷ rows) h = rw (ne_eqb letter r.letter h.0) (no_row_lem letter rows h.1)
-
--- what a `match` of an arm for each row leaves to its last arm
-abbrev pub Rest : (Row → Type 0) → Type 0 → List Row → Type 0
-Rest P before [] = before
-Rest P before (r ∷ rows) = Rest P (before × P r) rows
-
-pub rest_all : (P : Row → Type 0) (before : Type 0) (rows : List Row) → Rest P before rows → before × All P rows
-rest_all P before [] h = (h, tt)
-rest_all P before (r ∷ rows) h = let k = rest_all P (before × P r) rows h in (k.0.0, (k.0.1, k.1))
 
 -- what holds of every row, and of none, holds of the row of a letter
 row_passes : (test : Row → Bool) → test no_row ≡ true → (letter : ℕ) (rows : List Row) → all_of test rows ≡ true
@@ -48,11 +29,3 @@ at_most_five letter =
 pub no_nothing : (letter : ℕ) → all_of (λ p. not (is_nothing p)) (row_of letter).parts ≡ true
 unfolding row_of ◌and◌
 no_nothing letter = row_passes (λ r. all_of (λ p. not (is_nothing p)) r.parts) refl letter table refl
-
--- two letters of the same parts
-pub parts_of_both : {letter a b : ℕ} (parts : List Part) → (letter ≡ a) ⊎ (letter ≡ b)
-    → (row_of a).parts ≡ parts → (row_of b).parts ≡ parts → (row_of letter).parts ≡ parts
-parts_of_both parts either p q = ⊎_elim (λ e. rw e p) (λ e. rw e q) either
-
-pub neither : {A B : Type 0} → (A ⊎ B → ⊥) → (A → ⊥) × (B → ⊥)
-neither h = (λ a. h (inl a), λ b. h (inr b))

@@ -5,8 +5,8 @@ ghost use Rattle.std.specs.Prelude.{◌≡◌, ◌+◌, ◌<◌, ◌≤◌, drop
 ghost use Rattle.market.specs.declared.Call.TheVariants as call;
 ghost use Rattle.lines.specs.declared.Part.TheVariants.{Force, Nothing, Number, Side as SideLetter};
 ghost use Rattle.lines.specs.Finding.{index_of, slice};
-ghost use Rattle.lines.specs.Forms.{at, force_of, is_nothing, row_of, side_of};
-ghost use Rattle.lines.specs.Line.{line_says, no_values, value, values_from, values_in};
+ghost use Rattle.lines.specs.Forms.{at, force_of, row_of, side_of};
+ghost use Rattle.lines.specs.Line.{line_says, no_values, value, values_from};
 
 use market::{Call, Move, Session, Side, Ticket, TimeInForce};
 
@@ -15,6 +15,7 @@ const COMMA: u8 = b',';
 const MAX_DIGITS: usize = 16;
 
 // What a line says. Document 01's letters R, W, D, E, B and L, X, G, C, P, Z are calls; the others are H, S and M.
+// Malformed is one of them, no None: it has an answer of its own.
 #[derive(Clone, Copy)]
 pub enum Line {
     Call(Call),
@@ -24,7 +25,7 @@ pub enum Line {
     Malformed,
 }
 
-// What a field of a line holds; past the last field nothing.
+// What a field of a line holds; past the last field nothing, which `Forms` puts among the parts.
 #[derive(Clone, Copy)]
 pub enum Part {
     Number,
@@ -33,20 +34,8 @@ pub enum Part {
     Nothing,
 }
 
-#[derive(Clone, Copy)]
-pub enum Value {
-    Good(u64),
-    Wrong,
-}
-
-// The values of a line's fields, where its form is kept.
-#[derive(Clone, Copy)]
-struct Values {
-    good: bool,
-    list: [u64; 5],
-}
-
 // The first place of the byte in from..to, or `to`.
+#[tactic(auto, using(crate::proofs::Finding::first_places))]
 pub fn find(text: &[u8], from: usize, to: usize, wanted: u8) -> usize
     requires from_le_to { from ≤ to }
     requires to_in_bounds { to ≤ length text.now }
@@ -62,75 +51,66 @@ pub fn find(text: &[u8], from: usize, to: usize, wanted: u8) -> usize
 }
 
 // 1 to 16 decimal digits without leading zeros.
-pub fn number(field: &[u8]) -> Value
+#[tactic(auto, using(crate::proofs::Digits::digits))]
+pub fn number(field: &[u8]) -> Option<u64>
     ensures { result ≡ value Number field.now }
 {
-    if field.len() == 0 {
-        return Value::Wrong;
+    if field.is_empty() || MAX_DIGITS < field.len() {
+        return None;
     }
-    if MAX_DIGITS < field.len() {
-        return Value::Wrong;
-    }
-    if 1 < field.len() {
-        if field[0] == b'0' {
-            return Value::Wrong;
-        }
+    if 1 < field.len() && field[0] == b'0' {
+        return None;
     }
     let mut digits: u64 = 0;
-    let mut i: usize = 0;
-    while i < field.len() {
-        let b = field[i];
-        if b < b'0' {
-            return Value::Wrong;
+    for b in field {
+        if !b.is_ascii_digit() {
+            return None;
         }
-        if b'9' < b {
-            return Value::Wrong;
-        }
-        digits = digits * 10 + (b - b'0') as u64;
-        i += 1;
+        digits = digits * 10 + u64::from(*b - b'0');
     }
-    Value::Good(digits)
+    Some(digits)
 }
 
 // B or L.
-fn side_letter(field: &[u8]) -> Value
+#[tactic(auto, unfolding(crate::specs::Line::value))]
+fn side_letter(field: &[u8]) -> Option<u64>
     ensures { result ≡ value SideLetter field.now }
 {
-    if field.len() != 1 {
-        return Value::Wrong;
-    }
-    let b = field[0];
-    match b {
-        b'B' => Value::Good(0),
-        b'L' => Value::Good(1),
-        _ => Value::Wrong,
+    let [letter] = field else {
+        return None;
+    };
+    match letter {
+        b'B' => Some(0),
+        b'L' => Some(1),
+        _ => None,
     }
 }
 
 // K, I or A.
-fn force_letter(field: &[u8]) -> Value
+#[tactic(auto, unfolding(crate::specs::Line::value))]
+fn force_letter(field: &[u8]) -> Option<u64>
     ensures { result ≡ value Force field.now }
 {
-    if field.len() != 1 {
-        return Value::Wrong;
-    }
-    let b = field[0];
-    match b {
-        b'K' => Value::Good(0),
-        b'I' => Value::Good(1),
-        b'A' => Value::Good(2),
-        _ => Value::Wrong,
+    let [letter] = field else {
+        return None;
+    };
+    match letter {
+        b'K' => Some(0),
+        b'I' => Some(1),
+        b'A' => Some(2),
+        _ => None,
     }
 }
 
-fn field_value(part: Part, field: &[u8]) -> Value
+#[tactic(auto, unfolding(crate::specs::Line::value))]
+fn field_value(part: Part, field: &[u8]) -> Option<u64>
     ensures { result ≡ value part field.now }
 {
     match part {
         Part::Number => number(field),
         Part::Side => side_letter(field),
         Part::Force => force_letter(field),
-        Part::Nothing => Value::Wrong,
+        Part::Nothing => None,
     }
 }
 
@@ -141,61 +121,44 @@ fn numbers(n: usize, i: usize) -> Part
     if i < n { Part::Number } else { Part::Nothing }
 }
 
-// What field i after a letter holds. (Letters that follow each other in the alphabet stand in different arms: in one they are a
-// range to the prover.)
+// What field i after a letter holds.
+#[tactic(auto, unfolding(crate::specs::Forms::row_of, crate::specs::Forms::row_in))]
 fn part_of(letter: u8, i: usize) -> Part
     ensures { result ≡ get_or (row_of letter).parts i Nothing }
 {
     match letter {
-        b'H' | b'S' => numbers(3, i),
-        b'R' | b'D' => numbers(3, i),
-        b'W' | b'E' => numbers(3, i),
-        b'B' | b'L' => { if i == 4 { Part::Force } else { numbers(5, i) } }
+        b'H' | b'S' | b'R' | b'W' | b'D' | b'E' => numbers(3, i),
+        b'B' | b'L' => if i == 4 { Part::Force } else { numbers(5, i) },
         b'X' | b'G' => numbers(2, i),
-        b'M' => { if i == 0 { Part::Side } else { numbers(4, i) } }
-        b'P' => { if i == 1 { Part::Side } else { numbers(4, i) } }
-        b'C' | b'Z' => Part::Nothing,
+        b'M' => if i == 0 { Part::Side } else { numbers(4, i) },
+        b'P' => if i == 1 { Part::Side } else { numbers(4, i) },
         _ => Part::Nothing,
     }
 }
 
-fn is_nothing(part: Part) -> bool
-    ensures { result ≡ is_nothing part }
-{
-    match part {
-        Part::Number => false,
-        Part::Side => false,
-        Part::Force => false,
-        Part::Nothing => true,
-    }
-}
-
 // The values of the fields after a line's letter.
-fn field_values(line: &[u8]) -> Values
+#[tactic(auto, using(crate::proofs::Fields::field_steps))]
+fn field_values(line: &[u8]) -> Option<[u64; 5]>
     requires { 0 < length line.now }
-    ensures { values_in result.good result.list ≡ values_from (row_of (get_or line.now 0 0)).parts 0 no_values (drop 1 line.now) }
+    ensures { result ≡ values_from (row_of (get_or line.now 0 0)).parts 0 no_values (drop 1 line.now) }
 {
     let letter = line[0];
-    let mut list = [0u64; 5];
-    let mut i: usize = 0;
-    let mut at: usize = 1;
+    let mut list = [0; 5];
+    let mut i = 0;
+    let mut at = 1;
+    // No range: each round goes on by a field, and fields differ in length.
     while at < line.len() {
         if line[at] != COMMA {
-            return Values { good: false, list };
+            return None;
         }
-        let start = at + 1;
-        let end = find(line, start, line.len(), COMMA);
-        let value = field_value(part_of(letter, i), &line[start..end]);
-        let Value::Good(v) = value else {
-            return Values { good: false, list };
-        };
-        list[i] = v;
+        let end = find(line, at + 1, line.len(), COMMA);
+        list[i] = field_value(part_of(letter, i), &line[at + 1..end])?;
         i += 1;
         at = end;
     }
-    Values {
-        good: is_nothing(part_of(letter, i)),
-        list,
+    match part_of(letter, i) {
+        Part::Nothing => Some(list),
+        _ => None,
     }
 }
 
@@ -218,19 +181,18 @@ fn force_of(v: u64) -> TimeInForce
 fn order(side: Side, v: [u64; 5]) -> Call
     ensures { result ≡ call.Order (at v 0) (record { side = side; security = at v 1; price = at v 2; lots = at v 3 }) (force_of (at v 4)) }
 {
-    Call::Order(
-        v[0],
-        Ticket {
-            side,
-            security: v[1],
-            price: v[2],
-            lots: v[3],
-        },
-        force_of(v[4]),
-    )
+    let [participant, security, price, lots, force] = v;
+    let ticket = Ticket {
+        side,
+        security,
+        price,
+        lots,
+    };
+    Call::Order(participant, ticket, force_of(force))
 }
 
 // What a line says by its letter and its fields' values.
+#[tactic(auto, unfolding(crate::specs::Forms::row_of, crate::specs::Forms::row_in))]
 fn says(letter: u8, v: [u64; 5]) -> Line
     ensures { result ≡ (row_of letter).says v }
 {
@@ -258,16 +220,15 @@ fn says(letter: u8, v: [u64; 5]) -> Line
     }
 }
 
+#[tactic(auto, unfolding(crate::specs::Line::line_says))]
 pub fn line_says(line: &[u8]) -> Line
     ensures { result ≡ line_says line.now }
 {
-    if line.len() == 0 {
+    let [letter, ..] = line else {
         return Line::Malformed;
+    };
+    match field_values(line) {
+        Some(v) => says(*letter, v),
+        None => Line::Malformed,
     }
-    let v = field_values(line);
-    if !v.good {
-        return Line::Malformed;
-    }
-    let list = v.list;
-    says(line[0], list)
 }

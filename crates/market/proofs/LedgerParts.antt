@@ -1,14 +1,12 @@
 -- An act on the parts of a sound ledger, refused or accepted, as its contract asks for it.
 use Prim.Native.Nat.{ℕ, zero, suc, ◌<◌}
 use native.Mathlib.Omega.{arith}
-use mathlib.Core.Path.{◌≡◌, ap, sym, ◌∙◌}
+use mathlib.Core.Path.{◌≡◌, refl, ap, sym, ◌∙◌}
 use mathlib.Core.List.{List}
 use mathlib.Core.Bool.{true}
 use lib.ListN.{length}
-use Rattle.market.specs.declared.Answer.TheVariants.{Refused}
-use Rattle.market.specs.declared.Dealt.{Dealt}
-use Rattle.market.specs.declared.OrderBook.{OrderBook}
-use Rattle.market.specs.declared.Phase.{Phase}
+use Rattle.market.specs.declared.Answer.TheVariants.{Done, Refused}
+use Rattle.market.specs.declared.Floor.{Floor}
 use Rattle.market.specs.declared.Records.{Records}
 use Rattle.market.specs.declared.Rules.{Rules}
 use Rattle.market.specs.TradeList.{written}
@@ -19,15 +17,13 @@ use Rattle.market.specs.ActStep.{ActReply, act_effect, act_questions}
 use Rattle.market.specs.LedgerParts.{CarriesAct}
 use Rattle.market.proofs.Acts.{act_accepted, act_refused}
 
-module _ (r : Rules) (x : Phase) (m k : List ℕ) (b : OrderBook) (z : Records) (v : List ℕ) (a : Act)
-    (t : ledger_sound (ledger_of r x m k b z) ≡ true) where
+module _ (r : Rules) (f : Floor) (z : Records) (v : List ℕ) (a : Act) (t : ledger_sound (ledger_of r f z) ≡ true) where
   abbrev l : Ledger
-  l = ledger_of r x m k b z
+  l = ledger_of r f z
 
   -- refused with the first "no", everything as it was
   pub act_refuse : (n : ℕ) → 0 < n → first_no (act_questions l (length v) a) ≡ n
-      → CarriesAct r x m k b z v a m k v
-      (record { carried = record { answer = Refused n 0; phase = x; book = b }; records = z })
+      → CarriesAct r f z v a f z v (Refused n 0)
   act_refuse zero h e = absurd (omega arith)
   act_refuse (suc n) h e =
       let s = act_refused l v a n t e in
@@ -35,17 +31,21 @@ module _ (r : Rules) (x : Phase) (m k : List ℕ) (b : OrderBook) (z : Records) 
         answer = ap (λ (o : ActReply). o.answer) (sym s);
         ledger = ap (λ (o : ActReply). o.ledger) (sym s);
         list = ap (λ (o : ActReply). o.list) (sym s);
+        floor = refl;
+        records = refl;
       }
 
   -- every question is answered "yes", and this is what the effect says
-  pub act_accept : (m' k' v' : List ℕ) (o : Dealt) → first_no (act_questions l (length v) a) ≡ 0
-      → o.carried.answer ≡ (act_effect l a).answer
-      → ledger_of r o.carried.phase m' k' o.carried.book o.records ≡ (act_effect l a).ledger
-      → v' ≡ written (act_effect l a).trades v → CarriesAct r x m k b z v a m' k' v' o
-  act_accept m' k' v' o e answer ledger list =
+  pub act_accept : (f' : Floor) (z' : Records) (v' : List ℕ) (code filled left trades : ℕ)
+      → first_no (act_questions l (length v) a) ≡ 0 → Done code filled left trades ≡ (act_effect l a).answer
+      → ledger_of r f' z' ≡ (act_effect l a).ledger → v' ≡ written (act_effect l a).trades v
+      → CarriesAct r f z v a f' z' v' (Done code filled left trades)
+  act_accept f' z' v' code filled left trades e answer ledger list =
       let s = act_accepted l v a t e in
       record {
         answer = answer ∙ ap (λ (y : ActReply). y.answer) (sym s);
         ledger = ledger ∙ ap (λ (y : ActReply). y.ledger) (sym s);
         list = list ∙ ap (λ (y : ActReply). y.list) (sym s);
+        floor = tt;
+        records = tt;
       }

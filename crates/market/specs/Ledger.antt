@@ -1,15 +1,14 @@
 -- What lasts from day to day, around the trading day (T-06): the date and the open deals. The day knows nothing of them.
 use Rattle.std.specs.Prelude.{ℕ, List, Bool, length}
 use Rattle.market.specs.declared.Deal.{Deal}
-use Rattle.market.specs.declared.OrderBook.{OrderBook}
-use Rattle.market.specs.declared.Phase.{Phase}
+use Rattle.market.specs.declared.Floor.{Floor}
 use Rattle.market.specs.declared.Records.{Records}
 use Rattle.market.specs.declared.Rules.{Rules}
 use Rattle.market.specs.declared.State.{State}
 use Rattle.market.specs.Limits.{last_day, max_deals}
 use Rattle.market.specs.Tests.{◌and◌, ◌≤?◌, all_of}
 use Rattle.market.specs.Day.{Day}
-use Rattle.market.specs.View.{day_of, first_of, view}
+use Rattle.market.specs.View.{day_of, first_of}
 use Rattle.market.specs.Sound.{sound}
 use Rattle.market.specs.Deals.{by_age, deal_sound, no_deal}
 
@@ -33,13 +32,13 @@ first_deals n deals = first_of no_deal n deals
 abbrev pub around : Day → Records → Ledger
 around d z = record { day = d; date = z.date; deals = first_deals z.count z.deals }
 
+-- the ledger of a floor and records
+abbrev pub ledger_of : Rules → Floor → Records → Ledger
+ledger_of r f z = around (day_of r f) z
+
 -- the ledger that a State holds
 abbrev pub whole : State → Ledger
-whole s = around (view s) s.records
-
--- the ledger that the parts of a day and records make up
-abbrev pub ledger_of : Rules → Phase → List ℕ → List ℕ → OrderBook → Records → Ledger
-ledger_of r x money pieces b z = around (day_of r x money pieces b) z
+whole s = ledger_of s.rules s.floor s.records
 
 -- records: a date of the table, "while 64 deals are open" no more, each as above, oldest first and none from a later day
 unfoldable pub records_sound : Rules → ℕ → List Deal → Bool

@@ -16,6 +16,7 @@ pub mod Calls
 pub mod Phases
 pub mod Matching
 pub mod Questions
+pub mod Refusals
 pub mod Entry
 pub mod Linked
 pub mod Pairing

@@ -1,42 +1,25 @@
--- The parts of a day as the code behind the public calls holds them: positions are lent, the order book goes by value.
+-- The calls of a trading day as the code behind the public calls has them: on a lent floor, under rules.
 use Rattle.std.specs.Prelude.{ℕ, ◌≤◌, ◌≡◌, List, true}
+use Rattle.market.specs.declared.Answer.{Answer}
+use Rattle.market.specs.declared.Answer.TheVariants.{Done, Refused}
 use Rattle.market.specs.declared.Call as code
 use Rattle.market.specs.declared.Call.TheVariants as coded
-use Rattle.market.specs.declared.Carried.{Carried}
+use Rattle.market.specs.declared.Floor.{Floor}
 use Rattle.market.specs.declared.Listing.{Listing}
 use Rattle.market.specs.declared.Move.{Move}
 use Rattle.market.specs.declared.Move.TheVariants as moved
-use Rattle.market.specs.declared.OrderBook.{OrderBook}
-use Rattle.market.specs.declared.Phase.{Phase}
 use Rattle.market.specs.declared.Rules.{Rules}
 use Rattle.market.specs.declared.Session.{Session}
 use Rattle.market.specs.declared.Session.TheVariants as session
-use Rattle.market.specs.declared.State.{State}
 use Rattle.market.specs.declared.Ticket.{Ticket}
 use Rattle.market.specs.Limits.{max_lot, max_nominal, max_rate}
 use Rattle.market.specs.declared.Asset.TheVariants.{Money, Pieces}
 use Rattle.market.specs.Day.{row}
-use Rattle.market.specs.View.{Sized, day_of, view}
+use Rattle.market.specs.View.{Sized, day_of}
 use Rattle.market.specs.Sound.{sound}
 use Rattle.market.specs.Calls.{Call, cancel, closing_order, decrease, end_collecting, end_session, increase}
 use Rattle.market.specs.Calls.{linked, order, start_closing, start_collecting}
 use Rattle.market.specs.Step.{step}
-
--- the rules and the order book of a State
-abbrev pub rules_of : State → Rules
-rules_of s = (view s).rules
-
-abbrev pub book_of : State → OrderBook
-book_of s = record {
-  orders = s.orders;
-  count = s.count;
-  codes = s.codes;
-  turnover = s.turnover;
-  filled = 0;
-  left = 0;
-  trades = 0;
-  code = 0;
-}
 
 -- the call that a move of reserves stands for
 abbrev pub move_of : Move → Call
@@ -74,14 +57,19 @@ pub record ListingOk (l : Listing) : Type 0 where
   pub nominal : l.row.nominal ≤ max_nominal
   pub rate : l.rate ≤ max_rate
 
--- the day that these parts make up is sound, and its arrays have their lengths
-pub record Ready (r : Rules) (x : Phase) (m k : List ℕ) (b : OrderBook) : Type 0 where
-  pub sized : Sized (day_of r x m k b)
-  pub sound : sound (day_of r x m k b) ≡ true
+-- the day is sound, and its arrays have their lengths
+pub record Ready (r : Rules) (f : Floor) : Type 0 where
+  pub sized : Sized (day_of r f)
+  pub sound : sound (day_of r f) ≡ true
 
--- the contract of a call on parts: answer, day and lent list are those of the definition
-pub record Carries (r : Rules) (x : Phase) (m k : List ℕ) (b : OrderBook) (l : List ℕ) (c : Call)
-    (m' k' l' : List ℕ) (o : Carried) : Type 0 where
-  pub answer : o.answer ≡ (step (day_of r x m k b) l c).answer
-  pub day : day_of r o.phase m' k' o.book ≡ (step (day_of r x m k b) l c).day
-  pub list : l' ≡ (step (day_of r x m k b) l c).list
+-- "Any other refusal hands the state back as given": the very value
+abbrev pub HandedBack : {A : Type 0} → A → Answer → A → Type 0
+HandedBack s (Refused number place) s' = s' ≡ s
+HandedBack s (Done code filled left trades) s' = Unit {0}
+
+-- the contract of a call on a floor: answer, day and lent list are those of the definition
+pub record Carries (r : Rules) (f : Floor) (l : List ℕ) (c : Call) (f' : Floor) (l' : List ℕ) (a : Answer) : Type 0 where
+  pub answer : a ≡ (step (day_of r f) l c).answer
+  pub day : day_of r f' ≡ (step (day_of r f) l c).day
+  pub list : l' ≡ (step (day_of r f) l c).list
+  pub refusal : HandedBack f a f'

@@ -1,13 +1,13 @@
 // The types of a trading day, in document 01's words, and its limits.
 #![tactic(auto)]
 
-ghost use Rattle.std.specs.Prelude.{◌≡◌, ◌≤◌};
-ghost use Rattle.market.specs.declared.Answer.TheVariants.{Done, Refused};
+ghost use Rattle.std.specs.Prelude.{◌≡◌, ◌<◌, ◌≤◌, length};
+ghost use Rattle.market.specs.declared.Answer.TheVariants.{Refused};
 ghost use Rattle.market.specs.Day.{with_lots};
-ghost use Rattle.market.specs.Limits.{limits_in_order, max_lots};
-ghost use Rattle.market.specs.View.{day_of, view};
-ghost use Rattle.market.specs.Parts.{book_of, rules_of};
-ghost use Rattle.market.specs.Ledger.{ledger_of, whole};
+ghost use Rattle.market.specs.Limits.{limits_in_order, max_lots, max_participants, max_securities, position_numbers};
+ghost use Rattle.market.specs.Refusals.{number_of};
+ghost use Rattle.market.specs.Parts.{listing};
+ghost use Rattle.market.specs.View.{Sized, view};
 
 pub const MAX_PARTICIPANTS: u64 = 16;
 
@@ -107,6 +107,54 @@ pub fn limits() -> [u64; 28]
     ]
 }
 
+// Why a call is refused: the number is that of the question answered "no".
+#[derive(Clone, Copy, PartialEq, Eq)]
+pub enum Refusal {
+    Unsound = 1,
+    ListTooShort = 2,
+    GroupSize = 3,
+    UnknownParticipant = 4,
+    UnknownAsset = 5,
+    WrongPhase = 6,
+    AmountOutOfRange = 7,
+    WrongPrice = 8,
+    OverTotalLimit = 9,
+    OverFree = 10,
+    NothingTraded = 11,
+    NoRoom = 12,
+    NoCodeLeft = 13,
+    NotCovered = 14,
+    NotFillable = 15,
+    NotFound = 16,
+    CountsOutOfRange = 17,
+    WrongLine = 18,
+    Malformed = 19,
+    TextTooLong = 20,
+    CodesGiven = 21,
+    RateOutOfRange = 22,
+    NominalOutOfRange = 23,
+    DayOutOfRange = 24,
+    LoanOutOfRange = 25,
+    NoRoomForDeals = 26,
+}
+
+impl Refusal {
+    pub fn number(self) -> u64
+        ensures { result ≡ number_of self }
+    {
+        self as u64
+    }
+}
+
+// With place 0.
+impl From<Refusal> for Answer {
+    ghost from_gives = { λ r a. a ≡ Refused (number_of r) 0 };
+
+    fn from(refusal: Refusal) -> Answer {
+        Answer::Refused(refusal.number(), 0)
+    }
+}
+
 // What a position is held in.
 #[derive(Clone, Copy)]
 pub enum Asset {
@@ -114,14 +162,14 @@ pub enum Asset {
     Pieces,
 }
 
-#[derive(Clone, Copy)]
+#[derive(Clone, Copy, PartialEq, Eq)]
 pub enum Side {
     Buy,
     Sell,
 }
 
 // Kept orders are collected for the auction (T-02) before trading opens.
-#[derive(Clone, Copy)]
+#[derive(Clone, Copy, PartialEq, Eq)]
 pub enum Phase {
     Open,
     Collecting,
@@ -131,7 +179,7 @@ pub enum Phase {
 
 // Kind of a waiting order; a kept one has a price. A repurchase offer (T-06) has rate, term and price, and waits among the orders:
 // rate and term lie where a kept one has padding, so that no order grows.
-#[derive(Clone, Copy)]
+#[derive(Clone, Copy, PartialEq, Eq)]
 pub enum Kind {
     Kept(u64),
     Closing,
@@ -201,6 +249,7 @@ pub struct Ticket {
 }
 
 // The opening's arguments, which nothing changes: counts, security table, and the rate of the tariff in hundred-thousandths.
+// A table of 16 rows and a count, no Vec: there is no heap, and question 1 is asked of any count.
 #[derive(Clone, Copy)]
 pub struct Rules {
     pub participants: u64,
@@ -215,6 +264,19 @@ pub struct Rules {
 pub struct Listing {
     pub row: Security,
     pub rate: u64,
+}
+
+impl Rules {
+    // The listing of a security, whose row is all that is copied.
+    pub fn listing(&self, security: u64) -> Listing
+        requires { security < max_securities }
+        ensures { result ≡ listing self.now security }
+    {
+        Listing {
+            row: self.table[security as usize],
+            rate: self.rate,
+        }
+    }
 }
 
 // A move of reserves: participant, currency or security, amount.
@@ -263,7 +325,7 @@ pub struct Deal {
 }
 
 // What lasts from day to day beside positions and rules: the date, in days from 1970, and the open deals (the first `count`),
-// oldest first.
+// oldest first. An array and a count, no Vec: there is no heap, and question 1 is asked of any count.
 #[derive(Clone, Copy)]
 pub struct Records {
     pub date: u64,
@@ -271,53 +333,58 @@ pub struct Records {
     pub deals: [Deal; 64],
 }
 
-// A position's cell is participant * 16 + currency or security, free at twice that cell and blocked behind it; the row
-// behind the participants' 16 is the market's own account. The first `count` orders wait. `codes` are those given, of each
-// participant.
+// What the calls of a trading day change. The first `count` orders wait. `codes` are those given, of each participant. A position's
+// cell is participant * 16 + currency or security, free at twice that cell and blocked behind it; the row behind the participants'
+// 16 is the market's own account. An array and a count, no Vec: there is no heap, and question 1 is asked of any count.
+// Positions are numbers, no structs: a Day has lists of numbers. So is the lent trade list: document 01 says 8 numbers a trade.
 #[derive(Clone, Copy)]
-pub struct State {
-    pub participants: u64,
-    pub currencies: u64,
-    pub securities: u64,
-    pub table: [Security; 16],
-    pub money: [u64; 544],
-    pub pieces: [u64; 544],
+pub struct Floor {
+    pub phase: Phase,
     pub orders: [Order; 128],
     pub count: usize,
     pub codes: [u64; 16],
-    pub phase: Phase,
     pub turnover: [Turnover; 16],
-    pub rate: u64,
+    pub money: [u64; 544],
+    pub pieces: [u64; 544],
+}
+
+#[derive(Clone, Copy)]
+pub struct State {
+    pub rules: Rules,
+    pub floor: Floor,
     pub records: Records,
 }
 
-// Refused(number, place) or Done(code, filled, left, trades).
+// That arrays have their lengths, for proofs: their types tell, but of structs behind a reference they tell it only here.
+fn sized_table(rules: &Rules)
+    ensures { length rules.now.table ≡ max_securities }
+{}
+
+fn sized_floor(floor: &Floor)
+    ensures codes { length floor.now.codes ≡ max_participants }
+    ensures turnover { length floor.now.turnover ≡ max_securities }
+{}
+
+fn sized_positions(positions: &[u64; 544])
+    ensures { length positions.now ≡ position_numbers }
+{}
+
+impl State {
+    pub fn sized(&self)
+        ensures { Sized (view self.now) }
+    {
+        sized_table(&self.rules);
+        sized_floor(&self.floor);
+        sized_positions(&self.floor.money);
+        sized_positions(&self.floor.pieces);
+    }
+}
+
+// Refused(number, place) or Done(code, filled, left, trades). No Result: document 01 names this enum with its data.
 #[derive(Clone, Copy)]
 pub enum Answer {
     Refused(u64, u64),
     Done(u64, u64, u64, u64),
-}
-
-// What order entry changes besides the positions: the waiting orders (the first `count`), codes given, Q and T; and of
-// the last entry the lots filled, the lots left, its trades and its code, so that `book = call(book, ..)` writes over `book`.
-#[derive(Clone, Copy)]
-pub struct OrderBook {
-    pub orders: [Order; 128],
-    pub count: usize,
-    pub codes: [u64; 16],
-    pub turnover: [Turnover; 16],
-    pub filled: u64,
-    pub left: u64,
-    pub trades: u64,
-    pub code: u64,
-}
-
-// What a call on the parts of a day comes to, besides positions and trade list.
-#[derive(Clone, Copy)]
-pub struct Carried {
-    pub answer: Answer,
-    pub phase: Phase,
-    pub book: OrderBook,
 }
 
 // An act on the records, with its arguments (T-06); each call of a trading day is an act too.
@@ -329,13 +396,6 @@ pub enum Dealing {
     SecondPart(u64),
     // The date.
     NewDay(u64),
-}
-
-// What such an act comes to on the parts of a ledger.
-#[derive(Clone, Copy)]
-pub struct Dealt {
-    pub carried: Carried,
-    pub records: Records,
 }
 
 #[derive(Clone, Copy)]
@@ -376,124 +436,4 @@ pub fn unnumbered(participant: u64, side: Side, security: u64, lots: u64, kind: 
         kind,
     };
     with_lots(empty, lots)
-}
-
-// The parts of a state that its calls read, besides positions and phase.
-pub fn rules_of(s: State) -> Rules
-    ensures { result ≡ rules_of s }
-{
-    let table = s.table;
-    Rules {
-        participants: s.participants,
-        currencies: s.currencies,
-        securities: s.securities,
-        table,
-        rate: s.rate,
-    }
-}
-
-pub fn book_of(s: State) -> OrderBook
-    ensures { result ≡ book_of s }
-{
-    let orders = s.orders;
-    let codes = s.codes;
-    let turnover = s.turnover;
-    OrderBook {
-        orders,
-        count: s.count,
-        codes,
-        turnover,
-        filled: 0,
-        left: 0,
-        trades: 0,
-        code: 0,
-    }
-}
-
-// The state with these parts. The prover covers no store to a field that is an enum, so the state is built anew.
-pub fn state_of(
-    s: State,
-    phase: Phase,
-    money: [u64; 544],
-    pieces: [u64; 544],
-    book: OrderBook,
-) -> State
-    ensures { view result ≡ day_of (rules_of s) phase money pieces book }
-{
-    let records = s.records;
-    state_with(s, phase, money, pieces, book, records)
-}
-
-// The same, and its records.
-pub fn state_with(
-    s: State,
-    phase: Phase,
-    money: [u64; 544],
-    pieces: [u64; 544],
-    book: OrderBook,
-    records: Records,
-) -> State
-    ensures { whole result ≡ ledger_of (rules_of s) phase money pieces book records }
-{
-    let table = s.table;
-    let orders = book.orders;
-    let codes = book.codes;
-    let turnover = book.turnover;
-    State {
-        participants: s.participants,
-        currencies: s.currencies,
-        securities: s.securities,
-        table,
-        money,
-        pieces,
-        orders,
-        count: book.count,
-        codes,
-        phase,
-        turnover,
-        rate: s.rate,
-        records,
-    }
-}
-
-// A refusal with place 0, and the order book as it was.
-pub fn declined(book: OrderBook, phase: Phase, number: u64) -> Carried
-    ensures { result ≡ record { answer = Refused number 0; phase = phase; book = book } }
-{
-    Carried {
-        answer: Answer::Refused(number, 0),
-        phase,
-        book,
-    }
-}
-
-// The registered order: code, lots filled, lots left waiting and trades are those that the book has last.
-pub fn registered(book: OrderBook, phase: Phase) -> Carried
-    ensures { result ≡ record { answer = Done book.code book.filled book.left book.trades; phase = phase; book = book } }
-{
-    Carried {
-        answer: Answer::Done(book.code, book.filled, book.left, book.trades),
-        phase,
-        book,
-    }
-}
-
-// A refusal with place 0, and the state as it was.
-pub fn refused(s: State, number: u64) -> Outcome
-    ensures { result ≡ record { answer = Refused number 0; state = s } }
-{
-    Outcome {
-        answer: Answer::Refused(number, 0),
-        state: s,
-    }
-}
-
-// What calls without an order answer: zeros.
-pub fn accepted(s: State) -> Outcome
-    ensures { result ≡ record { answer = Done 0 0 0 0; state = s } }
-{
-    Outcome {
-        answer: Answer::Done(0, 0, 0, 0),
-        state: s,
-    }
 }

@@ -5,10 +5,9 @@ use mathlib.Core.Path.{◌≡◌, refl, ap, sym, ◌∙◌, subst}
 use mathlib.Core.List.{List, [], ◌∷◌, ◌++◌}
 use mathlib.Core.Bool.{true}
 use lib.ListN.{length, set}
-use Rattle.market.specs.declared.Order.{Order}
-use Rattle.market.specs.declared.OrderBook.{OrderBook}
-use Rattle.market.specs.declared.Phase.{Phase}
+use Rattle.market.specs.declared.Floor.{Floor}
 use Rattle.market.specs.declared.Listing.{Listing}
+use Rattle.market.specs.declared.Order.{Order}
 use Rattle.market.specs.declared.Side.{Side}
 use Rattle.market.specs.declared.Side.TheVariants.{Buy, Sell}
 use Rattle.market.specs.declared.Turnover.{Turnover}
@@ -18,16 +17,14 @@ use Rattle.market.specs.declared.Asset.{Asset}
 use Rattle.market.specs.declared.Asset.TheVariants.{Money, Pieces}
 use Rattle.market.specs.Day.{Day, columns_of, currency_of, row, no_order, order_at, cell, total_limit, turnover_at}
 use Rattle.market.specs.Day.{with_money, with_pieces}
-use Rattle.market.specs.View.{day_of}
+use Rattle.market.specs.View.{day_of, first_orders}
 use Rattle.market.specs.Needs.{asset_of, both_fees, cell_for, column_of, limit_of, need, need_at, pieces_of, proceeds, sum_for}
 use Rattle.market.specs.Needs.{value_for, with_fee}
 use Rattle.market.specs.Positions.{change, counted, counting, fall, money_settled, pay, pieces_settled, receive, settle}
 use Rattle.market.specs.Parts.{listing}
 use Rattle.market.specs.Waiting.{take_off}
-use Rattle.market.specs.TradeList.{trade_of}
 use Rattle.market.specs.Matching.{buy_of, found, if_buy, opposite, reaches, sell_of, traded}
 use Rattle.market.proofs.Logic.{never}
-use Rattle.market.proofs.View.{first_length}
 use Rattle.market.proofs.Lists.{all_map, sum_remove}
 use Rattle.market.proofs.Amounts.{only_same}
 use Rattle.market.proofs.Needs.{fall_pays, fall_sells, fee_shared, need_own, pieces_small, pieces_split, sum_small}
@@ -36,21 +33,18 @@ use Rattle.market.proofs.Known.{OrderOk, listing_ok}
 use Rattle.market.proofs.Matching.{Chosen}
 use Rattle.market.proofs.Codes.{given_top}
 use Rattle.positions.specs.Payable.{Payable}
-use Rattle.invariant.specs.Standing.{Backed, Held, Standing, needs_of}
+use Rattle.invariant.specs.Standing.{Backed, Held, InFlight, Standing, needs_of}
 use Rattle.invariant.proofs.Held.{held_account, held_cell, held_within}
 use Rattle.invariant.proofs.Flight.{buyer_pays, fitting, ok_e, ok_o, range}
 use Rattle.matching.specs.Execution.{Countable, Executable, Executes, Settles, money_after}
 use Rattle.matching.specs.Execution.{pieces_after}
-use Rattle.matching.specs.Filling.{Flies, open_day}
-use Rattle.matching.specs.Orders.{FewLots, waiting_in}
-use Rattle.matching.specs.Written.{trade_as}
+use Rattle.matching.specs.Orders.{FewLots}
 
 -- the lots of a sound day's orders can be added up
-pub few_waiting : (r : Rules) (x : Phase) (m k : List ℕ) (b : OrderBook) → Standing (day_of r x m k b)
-    → FewLots b.count (waiting_in b)
-few_waiting r x m k b st = record {
-  room = omega (arith, st.room, first_length b.count b.orders);
-  lots = all_map (OrderOk r) (λ o. o.lots ≤ max_lots) (waiting_in b) (λ o ok. ok.top) st.orders;
+pub few_waiting : (d : Day) → Standing d → FewLots d.waiting
+few_waiting d st = record {
+  room = st.room;
+  lots = all_map (OrderOk d.rules) (λ o. o.lots ≤ max_lots) d.waiting (λ o ok. ok.top) st.orders;
 }
 
 -- what is needed is blocked, so it can be paid, in money as in pieces
@@ -132,10 +126,10 @@ module _ (x : List Order) (d : Day) (backed : Backed x d) (buy sell : Order) (p 
       }
 
   -- money and pieces after the trade
-  pub settled : (m k : List ℕ) → m ≡ money_after own buy sell falls (sum_for own.row p n) d.money
+  pub settled_day : (m k : List ℕ) → m ≡ money_after own buy sell falls (sum_for own.row p n) d.money
       → k ≡ pieces_after buy sell (pieces_of own.row n) d.pieces → with_pieces (with_money d m) k ≡ settle d buy sell p n
   unfolding settle
-  settled m k em ek =
+  settled_day m k em ek =
       let c = currency_of d.rules buy.security in
       let rate = own.rate in
       let sum = sum_for own.row p n in
@@ -155,31 +149,31 @@ module _ (x : List Order) (d : Day) (backed : Backed x d) (buy sell : Order) (p 
       rw (paid, delivered)
 
 -- the entry e trades n lots with the order at place i, at its price p
-module _ {r : Rules} {l : Listing} {b : OrderBook} {e : Order} {m k : List ℕ} (f : Flies r l b e m k) (i p n : ℕ)
-    (some : 0 < e.lots) (chosen : Chosen e (waiting_in b) (found i p)) (ne : n ≤ e.lots)
-    (no : n ≤ (order_at (waiting_in b) i).lots) where
+module _ (r : Rules) (f : Floor) {e : Order} (flight : InFlight (day_of r f) e) (i p n : ℕ) (some : 0 < e.lots)
+    (chosen : Chosen e (day_of r f).waiting (found i p)) (ne : n ≤ e.lots)
+    (no : n ≤ (order_at (day_of r f).waiting i).lots) where
   abbrev d : Day
-  d = open_day r m k b
+  d = day_of r f
 
   abbrev o : Order
-  o = order_at (waiting_in b) i
+  o = order_at d.waiting i
 
   abbrev t : List Turnover
-  t = b.turnover
+  t = f.turnover
 
-  entry_listed : (y : Asset) (j : ℕ) → need_at y r t j e ≤ needs_of y d ((e ∷ []) ++ waiting_in b) j
+  entry_listed : (y : Asset) (j : ℕ) → need_at y r t j e ≤ needs_of y d ((e ∷ []) ++ d.waiting) j
   entry_listed y j = omega arith
 
-  waiting_listed : (y : Asset) (j : ℕ) → need_at y r t j o ≤ needs_of y d ((e ∷ []) ++ waiting_in b) j
-  waiting_listed y j = omega (arith, sum_remove (need_at y r t j) no_order (waiting_in b) i chosen.0)
+  waiting_listed : (y : Asset) (j : ℕ) → need_at y r t j o ≤ needs_of y d ((e ∷ []) ++ d.waiting) j
+  waiting_listed y j = omega (arith, sum_remove (need_at y r t j) no_order d.waiting i chosen.0)
 
   abbrev Fits : Order → Order → Type 0
   Fits buy sell =
       Settles (listing r buy.security) buy sell (fall r t buy n) (sum_for (row r buy.security) p n)
-      (pieces_of (row r buy.security) n) m k
+      (pieces_of (row r buy.security) n) f.money f.pieces
       × ((m' k' : List ℕ)
-      → m' ≡ money_after (listing r buy.security) buy sell (fall r t buy n) (sum_for (row r buy.security) p n) m
-      → k' ≡ pieces_after buy sell (pieces_of (row r buy.security) n) k
+      → m' ≡ money_after (listing r buy.security) buy sell (fall r t buy n) (sum_for (row r buy.security) p n) f.money
+      → k' ≡ pieces_after buy sell (pieces_of (row r buy.security) n) f.pieces
       → with_pieces (with_money d m') k' ≡ settle d buy sell p n)
 
   sides : (x y : Side) → e.side ≡ x → o.side ≡ y → opposite x y ≡ true → reaches x e.kind o.kind ≡ true
@@ -187,46 +181,46 @@ module _ {r : Rules} {l : Listing} {b : OrderBook} {e : Order} {m k : List ℕ} 
   sides Buy Buy ex oy q h = never q
   sides Sell Sell ex oy q h = never q
   sides Buy Sell ex oy q h =
-      let same = sym (fitting d e f.flight i p n some chosen ne no).security in
-      let price = (buyer_pays d e f.flight i p n some chosen ne no Buy h).0 in
-      let top = (range d e f.flight i p n some chosen ne no).1 in
-      let eOk = ok_e d e f.flight i p n some chosen ne no in
-      let oOk = ok_o d e f.flight i p n some chosen ne no in (
-        settles (e ∷ []) d f.flight.backed e o p n eOk oOk ex oy same price ne no (entry_listed Money)
+      let same = sym (fitting d e flight i p n some chosen ne no).security in
+      let price = (buyer_pays d e flight i p n some chosen ne no Buy h).0 in
+      let top = (range d e flight i p n some chosen ne no).1 in
+      let eOk = ok_e d e flight i p n some chosen ne no in
+      let oOk = ok_o d e flight i p n some chosen ne no in (
+        settles (e ∷ []) d flight.backed e o p n eOk oOk ex oy same price ne no (entry_listed Money)
             (waiting_listed Pieces) top,
-        settled (e ∷ []) d f.flight.backed e o p n eOk oOk ex oy same price ne no (entry_listed Money)
+        settled_day (e ∷ []) d flight.backed e o p n eOk oOk ex oy same price ne no (entry_listed Money)
             (waiting_listed Pieces),
       )
   sides Sell Buy ex oy q h =
-      let same = (fitting d e f.flight i p n some chosen ne no).security in
-      let price = (buyer_pays d e f.flight i p n some chosen ne no Sell h).0 in
-      let top = (range d e f.flight i p n some chosen ne no).1 in
-      let eOk = ok_e d e f.flight i p n some chosen ne no in
-      let oOk = ok_o d e f.flight i p n some chosen ne no in (
-        settles (e ∷ []) d f.flight.backed o e p n oOk eOk oy ex same price no ne (waiting_listed Money)
+      let same = (fitting d e flight i p n some chosen ne no).security in
+      let price = (buyer_pays d e flight i p n some chosen ne no Sell h).0 in
+      let top = (range d e flight i p n some chosen ne no).1 in
+      let eOk = ok_e d e flight i p n some chosen ne no in
+      let oOk = ok_o d e flight i p n some chosen ne no in (
+        settles (e ∷ []) d flight.backed o e p n oOk eOk oy ex same price no ne (waiting_listed Money)
             (entry_listed Pieces) top,
-        settled (e ∷ []) d f.flight.backed o e p n oOk eOk oy ex same price no ne (waiting_listed Money)
+        settled_day (e ∷ []) d flight.backed o e p n oOk eOk oy ex same price no ne (waiting_listed Money)
             (entry_listed Pieces),
       )
 
   both : Fits (buy_of e o) (sell_of e o)
   both =
-      let h = fitting d e f.flight i p n some chosen ne no in
+      let h = fitting d e flight i p n some chosen ne no in
       sides e.side o.side refl refl h.side h.price
 
   -- buy and sell are of the entry's security
   security_is : (x : Side) → (if_buy x e o).security ≡ e.security
   security_is Buy = refl
-  security_is Sell = sym (fitting d e f.flight i p n some chosen ne no).security
+  security_is Sell = sym (fitting d e flight i p n some chosen ne no).security
 
   top_of : (x : Side) → ((if_buy x e o).lots ≤ max_lots) × (n ≤ (if_buy x e o).lots)
-  top_of Buy = (f.flight.top, ne)
-  top_of Sell = ((ok_o d e f.flight i p n some chosen ne no).top, no)
+  top_of Buy = (flight.top, ne)
+  top_of Sell = ((ok_o d e flight i p n some chosen ne no).top, no)
 
   -- Q + pieces ≤ 10^7 × codes and T ≤ 10^6 × Q, with at most 10^6 codes
   counts : Countable (turnover_at t e.security) (pieces_of (row r e.security) n) (value_for (row r e.security) p n)
   counts =
-      let g = f.flight in
+      let g = flight in
       let s = e.security in
       let x = row r s in
       let q = g.turnovers s g.security in
@@ -243,25 +237,18 @@ module _ {r : Rules} {l : Listing} {b : OrderBook} {e : Order} {m k : List ℕ} 
         low = value_small x p n lot price.1 lots;
       }
 
-  -- in terms of the entry's security
-  abbrev At : ℕ → (List ℕ) → ℕ → Type 0
-  At s v j = Executable (listing r s) (turnover_at t s) (buy_of e o) (sell_of e o) p n j m k v
-
   pub executable : (v : List ℕ) (j : ℕ) → numbers_per_trade * j + numbers_per_trade ≤ length v
-      → Executable l (turnover_at t e.security) (buy_of e o) (sell_of e o) p n j m k v
+      → Executable r f (buy_of e o) (sell_of e o) p n j v
   executable v j lent =
-      let g = f.flight in
       let s = security_is e.side in
-      let price = range d e g i p n some chosen ne no in
-      let h = fitting d e g i p n some chosen ne no in
-      let limit = (buyer_pays d e g i p n some chosen ne no e.side h.price).1 in
+      let price = range d e flight i p n some chosen ne no in
+      let h = fitting d e flight i p n some chosen ne no in
+      let limit = (buyer_pays d e flight i p n some chosen ne no e.side h.price).1 in
       let lots = top_of e.side in
-      subst (λ (x : Listing). Executable x (turnover_at t e.security) (buy_of e o) (sell_of e o) p n j m k v) f.listing
-      (subst (λ (x : ℕ). At x v j) s
-      (record {
+      record {
         settles = both.0;
         reckoned = record {
-          listing = listing_ok r (buy_of e o).security g.backed.rules_ok (omega (arith, s, g.security));
+          listing = listing_ok r (buy_of e o).security flight.backed.rules_ok (omega (arith, s, flight.security));
           limit = limit;
           top = lots.0;
           part = lots.1;
@@ -269,37 +256,24 @@ module _ {r : Rules} {l : Listing} {b : OrderBook} {e : Order} {m k : List ℕ} 
         price = price.1;
         counts = subst (λ (x : ℕ). Countable (turnover_at t x) (pieces_of (row r x) n) (value_for (row r x) p n)) (sym s) counts;
         lent = lent;
-      }))
+      }
 
-  -- the list shows the definition's trade
-  pub trade_is : trade_as (buy_of e o) (sell_of e o) p n (sum_for l.row p n) ≡ trade_of r (buy_of e o) (sell_of e o) p n
-  trade_is =
-      let own : listing r (buy_of e o).security ≡ l = ap (listing r) (security_is e.side) ∙ f.listing in
-      ap (λ (x : Listing). trade_as (buy_of e o) (sell_of e o) p n (sum_for x.row p n)) (sym own)
-
-  -- the parts after the trade make up the definition's day
-  module _ {m' k' v v' : List ℕ} {j : ℕ} {q : Turnover} (b' : OrderBook)
-      (done : Executes l (turnover_at t e.security) (buy_of e o) (sell_of e o) p n j m k v m' k' v' q)
-      (waiting : waiting_in b' ≡ take_off (waiting_in b) i n) (codes : b'.codes ≡ b.codes)
-      (turnover : b'.turnover ≡ set t e.security q) where
-    at_buy : Executes (listing r (buy_of e o).security) (turnover_at t (buy_of e o).security) (buy_of e o) (sell_of e o) p n j
-        m k v m' k' v' q
-    at_buy =
-        subst (λ (x : ℕ). Executes (listing r x) (turnover_at t x) (buy_of e o) (sell_of e o) p n j m k v m' k' v' q)
-        (sym (security_is e.side))
-        (subst (λ (x : Listing). Executes x (turnover_at t e.security) (buy_of e o) (sell_of e o) p n j m k v m' k' v' q)
-        (sym f.listing) done)
-
-    pub day_traded : open_day r m' k' b' ≡ traded d (buy_of e o) (sell_of e o) i p n
+  -- the floor after the trade holds the definition's day
+  module _ {f1 : Floor} (f' : Floor) {v v' : List ℕ} {j : ℕ} {q : Turnover} (done : Executes r f (buy_of e o) (sell_of e o) p n j v f1 v' q)
+      (waiting : first_orders f'.count f'.orders ≡ take_off d.waiting i n) (codes : f'.codes ≡ f.codes)
+      (phase : f'.phase ≡ f.phase) (turnover : f'.turnover ≡ set t e.security q) (money : f'.money ≡ f1.money)
+      (pieces : f'.pieces ≡ f1.pieces) where
+    pub day_traded : day_of r f' ≡ traded d (buy_of e o) (sell_of e o) i p n
     unfolding traded settle counted
     day_traded =
-        let positions = both.1 m' k' at_buy.money at_buy.pieces in
-        let counted : b'.turnover
+        let positions =
+        both.1 f'.money f'.pieces (money ∙ ap (λ (x : Floor). x.money) done.floor)
+        (pieces ∙ ap (λ (x : Floor). x.pieces) done.floor) in
+        let counted : f'.turnover
         ≡ set t (buy_of e o).security
         (counting (pieces_of (row r (buy_of e o).security) n) (value_for (row r (buy_of e o).security) p n)
         (turnover_at t (buy_of e o).security)) =
-        turnover ∙ ap (λ (x : ℕ). set t x q) (sym (security_is e.side))
-        ∙ ap (set t (buy_of e o).security) at_buy.turnover in
-        let money = ap (λ (x : Day). x.money) positions in
-        let pieces = ap (λ (x : Day). x.pieces) positions in
-        rw (waiting, codes, counted, money, pieces)
+        turnover ∙ ap (λ (x : ℕ). set t x q) (sym (security_is e.side)) ∙ ap (set t (buy_of e o).security) done.turnover in
+        let paid = ap (λ (x : Day). x.money) positions in
+        let delivered = ap (λ (x : Day). x.pieces) positions in
+        rw (waiting, codes, phase, counted, paid, delivered)

@@ -1,17 +1,19 @@
--- What one trade asks of the parts of a day, and what it does to them. The parts of a trade's security are its listing l and
--- its Q and T, t.
+-- What one trade asks of a floor, and what it does to it. The parts of a trade's security are its listing l and its Q and T, t.
 use Rattle.std.specs.Prelude.{ℕ, ◌+◌, ◌*◌, ◌-◌, ◌≤◌, ◌<◌, ◌≡◌, List, length}
-use Rattle.market.specs.declared.Order.{Order}
+use Rattle.market.specs.declared.Floor.{Floor}
 use Rattle.market.specs.declared.Listing.{Listing}
+use Rattle.market.specs.declared.Order.{Order}
+use Rattle.market.specs.declared.Rules.{Rules}
 use Rattle.market.specs.declared.Turnover.{Turnover}
 use Rattle.market.specs.Limits.{columns, market, max_codes, max_lots, max_pieces, max_price, max_rate, max_sum, max_value}
 use Rattle.market.specs.Limits.{money_limit, numbers_per_trade}
-use Rattle.market.specs.Day.{account, cell, with_lots}
+use Rattle.market.specs.Day.{account, cell, row, turnover_at, with_lots}
 use Rattle.market.specs.Needs.{blocks, both_fees, closing_price, pieces_of, price_or, proceeds, sum_for, value_for, with_fee}
-use Rattle.market.specs.Positions.{change, counting, pay, receive}
-use Rattle.market.specs.Parts.{ListingOk}
+use Rattle.market.specs.Positions.{change, counting, fall, pay, receive}
+use Rattle.market.specs.Parts.{ListingOk, listing}
+use Rattle.market.specs.TradeList.{trade_of}
 use Rattle.positions.specs.Payable.{Payable}
-use Rattle.matching.specs.Written.{trade_as, trade_written}
+use Rattle.matching.specs.Written.{trade_written}
 
 -- what an order needs
 abbrev pub need_with : Listing → Turnover → Order → ℕ
@@ -61,19 +63,32 @@ pub record Settles (l : Listing) (b s : Order) (fall sum sold : ℕ) (m k : List
   pub account : account m l.row.currency ≤ money_limit
   pub pieces : Payable k (cell s.participant b.security) sold sold (cell b.participant b.security) sold
 
--- they can trade n lots at price p, as trade number i of the lent list v
-pub record Executable (l : Listing) (t : Turnover) (b s : Order) (p n i : ℕ) (m k v : List ℕ) : Type 0
-  where
-    pub settles : Settles l b s (fall_with l t b n) (sum_for l.row p n) (pieces_of l.row n) m k
-    pub reckoned : Reckoned l t b n
-    pub price : p ≤ max_price
-    pub counts : Countable t (pieces_of l.row n) (value_for l.row p n)
-    pub lent : numbers_per_trade * i + numbers_per_trade ≤ length v
+-- the floor after it
+abbrev pub settled : Listing → Order → Order → (fall sum sold : ℕ) → Floor → Floor
+settled l b s fall sum sold f = record {
+  phase = f.phase;
+  orders = f.orders;
+  count = f.count;
+  codes = f.codes;
+  turnover = f.turnover;
+  money = money_after l b s fall sum f.money;
+  pieces = pieces_after b s sold f.pieces;
+}
 
--- and have traded them: positions, trade list, and Q and T with the trade
-pub record Executes (l : Listing) (t : Turnover) (b s : Order) (p n i : ℕ) (m k v m' k' v' : List ℕ)
-    (r : Turnover) : Type 0 where
-  pub money : m' ≡ money_after l b s (fall_with l t b n) (sum_for l.row p n) m
-  pub pieces : k' ≡ pieces_after b s (pieces_of l.row n) k
-  pub list : v' ≡ trade_written i (trade_as b s p n (sum_for l.row p n)) v
-  pub turnover : r ≡ counting (pieces_of l.row n) (value_for l.row p n) t
+-- under rules r a buy b and a sell s can trade n lots at price p, as trade number i of the lent list v
+pub record Executable (r : Rules) (f : Floor) (b s : Order) (p n i : ℕ) (v : List ℕ) : Type 0 where
+  pub settles : Settles (listing r b.security) b s (fall r f.turnover b n) (sum_for (row r b.security) p n)
+      (pieces_of (row r b.security) n) f.money f.pieces
+  pub reckoned : Reckoned (listing r b.security) (turnover_at f.turnover b.security) b n
+  pub price : p ≤ max_price
+  pub counts : Countable (turnover_at f.turnover b.security) (pieces_of (row r b.security) n) (value_for (row r b.security) p n)
+  pub lent : numbers_per_trade * i + numbers_per_trade ≤ length v
+
+-- and have traded them: floor, trade list, and Q and T with the trade
+pub record Executes (r : Rules) (f : Floor) (b s : Order) (p n i : ℕ) (v : List ℕ) (f' : Floor) (v' : List ℕ) (q : Turnover)
+    : Type 0 where
+  pub floor : f' ≡ settled (listing r b.security) b s (fall r f.turnover b n) (sum_for (row r b.security) p n)
+      (pieces_of (row r b.security) n) f
+  pub list : v' ≡ trade_written i (trade_of r b s p n) v
+  pub turnover : q ≡ counting (pieces_of (row r b.security) n) (value_for (row r b.security) p n)
+      (turnover_at f.turnover b.security)

@@ -1,71 +1,50 @@
-// Continuous trading: the best counter order, one trade, the fill. Positions and the trade list are lent, the order book
-// goes by value.
+// Continuous trading: the best counter order, one trade, the fill, on a lent floor.
 #![tactic(auto)]
 
-ghost use Rattle.std.specs.Prelude.{◌≡◌, ◌+◌, ◌*◌, ◌-◌, ◌≤◌, ◌<◌, min, length};
+ghost use Rattle.std.specs.Prelude.{◌≡◌, ◌+◌, ◌*◌, ◌-◌, ◌≤◌, ◌<◌, length};
 ghost use Rattle.market.specs.Limits.{numbers_per_trade};
-ghost use Rattle.market.specs.View.{first_orders};
 ghost use Rattle.market.specs.Needs.{kept_price};
 ghost use Rattle.market.specs.Positions.{counting};
 ghost use Rattle.market.specs.Matching.{better as isBetter, buy_of, fits as doesFit, fitting, fitting_lots, if_buy};
-ghost use Rattle.market.specs.Matching.{opposite as areOpposite, price_of, reaches as doesReach, sell_of};
+ghost use Rattle.market.specs.Matching.{price_of, reaches as doesReach, sell_of};
 ghost use Rattle.matching.specs.Search.{best_of, closer as isCloser, prefer_later, rank as rank_of};
-ghost use Rattle.matching.specs.Orders.{FewLots};
+ghost use Rattle.matching.specs.Orders.{FewLots, Takeable, TakenOff};
 ghost use Rattle.matching.specs.Written.{trade_as, trade_written};
-ghost use Rattle.matching.specs.Execution.{Countable, Executable, Executes, Reckoned, Settles, fall_with, money_after, pieces_after};
+ghost use Rattle.matching.specs.Execution.{Countable, Executable, Executes, Reckoned, Settles, fall_with, settled};
 ghost use Rattle.matching.specs.Filling.{Fillable, Fills};
 
 use amounts::{account_cell, cell_of, fee_of, money_for, need_of, pieces_of};
-use market::{Kind, Listing, Order, OrderBook, Side, Turnover, lots_of, with_lots};
+use market::{Floor, Kind, Listing, Order, Rules, Side, Turnover, lots_of, with_lots};
 use positions::{receive, transfer};
 
 // Buy code, sell code, buyer, seller, security, price, lots, sum.
 pub const NUMBERS_PER_TRADE: usize = 8;
 
-// The largest number of 64 bits.
-const TOP: u64 = 18446744073709551615;
+// What a fill comes to besides the floor: the lots left of the entry, and its trades.
+#[derive(Clone, Copy)]
+pub struct Matched {
+    pub left: u64,
+    pub trades: u64,
+}
 
 // Index and price of the best counter order.
 #[derive(Clone, Copy)]
-pub enum Found {
-    Nothing,
-    At(usize, u64),
-}
-
-pub fn opposite(side: Side, other: Side) -> bool
-    ensures { result ≡ areOpposite side other }
-{
-    match side {
-        Side::Buy => match other {
-            Side::Buy => false,
-            Side::Sell => true,
-        },
-        Side::Sell => match other {
-            Side::Buy => true,
-            Side::Sell => false,
-        },
-    }
+pub struct Found {
+    pub at: usize,
+    pub price: u64,
 }
 
 // A sell's price is at most the buy's; closing orders have no price and meet each other; an offer meets no order.
 fn reaches(side: Side, own: Kind, other: Kind) -> bool
     ensures { result ≡ doesReach side own other }
 {
-    match own {
-        Kind::Kept(p) => match other {
-            Kind::Kept(q) => match side {
-                Side::Buy => q <= p,
-                Side::Sell => p <= q,
-            },
-            Kind::Closing => false,
-            Kind::Offer(_, _, _) => false,
+    match (own, other) {
+        (Kind::Kept(p), Kind::Kept(q)) => match side {
+            Side::Buy => q <= p,
+            Side::Sell => p <= q,
         },
-        Kind::Closing => match other {
-            Kind::Kept(_) => false,
-            Kind::Closing => true,
-            Kind::Offer(_, _, _) => false,
-        },
-        Kind::Offer(_, _, _) => false,
+        (Kind::Closing, Kind::Closing) => true,
+        _ => false,
     }
 }
 
@@ -73,17 +52,7 @@ fn reaches(side: Side, own: Kind, other: Kind) -> bool
 fn fits(e: Order, o: Order) -> bool
     ensures { result ≡ doesFit e o }
 {
-    if e.security != o.security {
-        return false;
-    }
-    let side = e.side;
-    let other = o.side;
-    if !opposite(side, other) {
-        return false;
-    }
-    let own = e.kind;
-    let kind = o.kind;
-    reaches(side, own, kind)
+    e.security == o.security && e.side != o.side && reaches(e.side, e.kind, o.kind)
 }
 
 // Is the first price better for an entry of this side?
@@ -102,28 +71,20 @@ fn price_of(kind: Kind) -> u64
 {
     match kind {
         Kind::Kept(price) => price,
-        Kind::Closing => 0,
-        Kind::Offer(_, _, _) => 0,
+        _ => 0,
     }
 }
 
 // What was found stays unless the order at place `at` fits and is strictly better.
-pub fn preferred(e: Order, best: Found, o: Order, at: usize) -> Found
+pub fn preferred(e: Order, best: Option<Found>, o: Order, at: usize) -> Option<Found>
     ensures { best_of result ≡ prefer_later e (best_of best) o at }
 {
-    if !fits(e, o) {
-        return best;
+    let price = price_of(o.kind);
+    if fits(e, o) && best.is_none_or(|found| better(e.side, price, found.price)) {
+        Some(Found { at, price })
+    } else {
+        best
     }
-    let kind = o.kind;
-    let price = price_of(kind);
-    let Found::At(_, q) = best else {
-        return Found::At(at, price);
-    };
-    let side = e.side;
-    if better(side, price, q) {
-        return Found::At(at, price);
-    }
-    best
 }
 
 // How far a price is from the best one for an entry of this side.
@@ -132,7 +93,7 @@ fn rank(side: Side, price: u64) -> u64
 {
     match side {
         Side::Buy => price,
-        Side::Sell => TOP - price,
+        Side::Sell => u64::MAX - price,
     }
 }
 
@@ -141,23 +102,10 @@ fn rank(side: Side, price: u64) -> u64
 fn closer(e: Order, bound: u64, height: u64, o: Order) -> bool
     ensures { result ≡ isCloser e bound height o }
 {
-    if bound <= height {
-        return false;
-    }
-    if e.security != o.security {
-        return false;
-    }
-    let side = e.side;
-    let other = o.side;
-    if !opposite(side, other) {
-        return false;
-    }
-    let kind = o.kind;
-    match kind {
-        Kind::Kept(_) => true,
-        Kind::Closing => false,
-        Kind::Offer(_, _, _) => false,
-    }
+    height < bound
+        && e.security == o.security
+        && e.side != o.side
+        && matches!(o.kind, Kind::Kept(_))
 }
 
 // Each trade adds to Q and T.
@@ -177,18 +125,14 @@ fn lots_fitting(e: Order, o: Order) -> u64
     if fits(e, o) { lots_of(o) } else { 0 }
 }
 
-// The lots of the waiting orders that fit the entry, added up.
-pub fn fitting_lots(book: OrderBook, e: Order) -> u64
-    requires { FewLots book.count (first_orders book.count book.orders) }
-    ensures { result ≡ fitting e (first_orders book.count book.orders) }
+// The lots of the waiting orders that fit the entry, added up. No chain: its sum has no invariant to hold the bound.
+pub fn fitting_lots(waiting: &[Order], e: Order) -> u64
+    requires { FewLots waiting.now }
+    ensures { result ≡ fitting e waiting.now }
 {
-    let count = book.count;
     let mut sum: u64 = 0;
-    let mut i: usize = 0;
-    while i < count {
-        let o = book.orders[i];
-        sum += lots_fitting(e, o);
-        i += 1;
+    for o in waiting {
+        sum += lots_fitting(e, *o);
     }
     sum
 }
@@ -216,21 +160,22 @@ fn write_trade(
     ensures { trades.new ≡ trade_written at (trade_as buy sell price lots sum) trades.old }
 {
     let first = at * NUMBERS_PER_TRADE;
-    trades[first] = buy.code;
-    trades[first + 1] = sell.code;
-    trades[first + 2] = buy.participant;
-    trades[first + 3] = sell.participant;
-    trades[first + 4] = buy.security;
-    trades[first + 5] = price;
-    trades[first + 6] = lots;
-    trades[first + 7] = sum;
+    trades[first..first + NUMBERS_PER_TRADE].copy_from_slice(&[
+        buy.code,
+        sell.code,
+        buy.participant,
+        sell.participant,
+        buy.security,
+        price,
+        lots,
+        sum,
+    ]);
 }
 
 // Money and pieces change hands, and each side pays the fee to the market. What the buyer's need falls by above the sum and
 // his fee returns to his free money; the seller's need falls by the pieces that he sells.
 fn settle(
-    money: &mut [u64; 544],
-    pieces: &mut [u64; 544],
+    floor: &mut Floor,
     listing: Listing,
     buy: Order,
     sell: Order,
@@ -238,51 +183,43 @@ fn settle(
     sum: u64,
     sold: u64,
 )
-    requires { Settles listing buy sell fall sum sold money.old pieces.old }
-    ensures money_after { money.new ≡ money_after listing buy sell fall sum money.old }
-    ensures pieces_after { pieces.new ≡ pieces_after buy sell sold pieces.old }
+    requires { Settles listing buy sell fall sum sold floor.old.money floor.old.pieces }
+    ensures { floor.new ≡ settled listing buy sell fall sum sold floor.old }
 {
     let fee = fee_of(listing.rate, sum);
     let currency = listing.row.currency;
     let payer = cell_of(buy.participant, currency);
     let payee = cell_of(sell.participant, currency);
-    transfer(money, payer, payee, fall, sum + fee, sum - fee);
-    receive(money, account_cell(currency), fee + fee);
+    transfer(&mut floor.money, payer, payee, fall, sum + fee, sum - fee);
+    receive(&mut floor.money, account_cell(currency), fee + fee);
     let holder = cell_of(sell.participant, buy.security);
     let taker = cell_of(buy.participant, buy.security);
-    transfer(pieces, holder, taker, sold, sold, sold);
+    transfer(&mut floor.pieces, holder, taker, sold, sold, sold);
 }
 
 // A trade, whichever session makes it: positions are settled and the list shows it; the answer is Q and T with it.
 pub fn execute(
-    money: &mut [u64; 544],
-    pieces: &mut [u64; 544],
+    floor: &mut Floor,
+    rules: &Rules,
     trades: &mut [u64],
     number: usize,
-    listing: Listing,
-    turnover: Turnover,
     buy: Order,
     sell: Order,
     price: u64,
     lots: u64,
 ) -> Turnover
-    requires { Executable listing turnover buy sell price lots number money.old pieces.old trades.old }
-    ensures { Executes listing turnover buy sell price lots number money.old pieces.old trades.old money.new pieces.new trades.new result }
+    requires { Executable rules.now floor.old buy sell price lots number trades.old }
+    ensures { Executes rules.now floor.old buy sell price lots number trades.old floor.new trades.new result }
 {
+    let listing = rules.listing(buy.security);
+    let turnover = floor.turnover[buy.security as usize];
     let fall = fall_of(listing, turnover, buy, lots);
     let sold = pieces_of(listing.row, lots);
     let value = price * sold;
     let sum = money_for(listing.row, value);
     write_trade(trades, number, buy, sell, price, lots, sum);
-    settle(money, pieces, listing, buy, sell, fall, sum, sold);
+    settle(floor, listing, buy, sell, fall, sum, sold);
     counted(turnover, sold, value)
-}
-
-// A trade is of as many lots as both orders have.
-pub fn lesser(a: u64, b: u64) -> u64
-    ensures { result ≡ min a b }
-{
-    if a < b { a } else { b }
 }
 
 // The first order for a buy, the second for a sell.
@@ -297,103 +234,82 @@ pub fn if_buy(side: Side, first: Order, second: Order) -> Order
 
 // The entry trades with a waiting order, at the waiting order's price.
 fn trade_with(
-    money: &mut [u64; 544],
-    pieces: &mut [u64; 544],
+    floor: &mut Floor,
+    rules: &Rules,
     trades: &mut [u64],
     number: usize,
-    listing: Listing,
-    turnover: Turnover,
     e: Order,
     o: Order,
     lots: u64,
 ) -> Turnover
-    requires { Executable listing turnover (buy_of e o) (sell_of e o) (price_of o) lots number money.old pieces.old trades.old }
-    ensures { Executes listing turnover (buy_of e o) (sell_of e o) (price_of o) lots number money.old pieces.old trades.old money.new pieces.new trades.new result }
+    requires { Executable rules.now floor.old (buy_of e o) (sell_of e o) (price_of o) lots number trades.old }
+    ensures { Executes rules.now floor.old (buy_of e o) (sell_of e o) (price_of o) lots number trades.old floor.new trades.new result }
 {
-    let kind = o.kind;
-    let price = price_of(kind);
-    let side = e.side;
-    let buy = if_buy(side, e, o);
-    let sell = if_buy(side, o, e);
-    execute(
-        money, pieces, trades, number, listing, turnover, buy, sell, price, lots,
-    )
+    let price = price_of(o.kind);
+    let buy = if_buy(e.side, e, o);
+    let sell = if_buy(e.side, o, e);
+    execute(floor, rules, trades, number, buy, sell, price, lots)
 }
 
-// The fill of an entry whose need is blocked; `listing` is that of its security. Its code is given here, so that the book is
-// handed on as it came.
-pub fn fill(
-    b: OrderBook,
-    e: Order,
-    listing: Listing,
-    money: &mut [u64; 544],
-    pieces: &mut [u64; 544],
-    trades: &mut [u64],
-) -> OrderBook
-    requires { Fillable listing b e money.old pieces.old trades.old }
-    ensures { Fills listing b e money.old pieces.old trades.old money.new pieces.new trades.new result }
+// Lots come off the order at a place, one of the first `count`; the answer is how many then wait. A filled order gives its
+// place up, and each later one moves a place forward.
+pub fn take_off(orders: &mut [Order], count: usize, at: usize, lots: u64) -> usize
+    requires { Takeable orders.old count at }
+    ensures { TakenOff orders.old count at lots orders.new result }
 {
-    let mut book = b;
-    let security = e.security as usize;
-    let wanted = lots_of(e);
-    let mut left = wanted;
+    let o = orders[at];
+    let waits = lots_of(o);
+    if lots < waits {
+        orders[at] = with_lots(o, waits - lots);
+        return count;
+    }
+    orders.copy_within(at + 1..count, at);
+    count - 1
+}
+
+// The fill of an entry whose code is given and whose need is blocked.
+pub fn fill(floor: &mut Floor, rules: &Rules, e: Order, trades: &mut [u64]) -> Matched
+    requires { Fillable rules.now floor.old e trades.old }
+    ensures { Fills rules.now floor.old e trades.old floor.new trades.new result }
+{
+    let mut left = lots_of(e);
     let mut made: usize = 0;
     // A counter order that fits has a rank below this.
-    let side = e.side;
-    let own = e.kind;
-    let reach = rank(side, price_of(own)) + 1;
+    let reach = rank(e.side, price_of(e.kind)) + 1;
     // Matching ends at the first of: the entry is full, or no waiting counter order fits.
     'fill: while 0 < left {
-        // Best price comes first, then earliest arrival: the list is by rising arrival. Two plain numbers hold what is found;
-        // the place is `count` until then.
-        let count = book.count;
-        let mut best = count;
+        // Best price comes first, then earliest arrival: the list is by rising arrival.
+        let count = floor.count;
+        let mut best = None;
         let mut bound = reach;
         let mut i: usize = 0;
+        // Its index stays: document 01 names this search as one that a label leaves.
         let at = 'search: loop {
             if count <= i {
-                if best == count {
+                let Some(found) = best else {
                     break 'fill;
-                }
-                break 'search best;
+                };
+                break 'search found;
             }
-            let o = book.orders[i];
-            let kind = o.kind;
-            let height = rank(side, price_of(kind));
+            let o = floor.orders[i];
+            let height = rank(e.side, price_of(o.kind));
             if closer(e, bound, height, o) {
-                best = i;
+                best = Some(i);
                 bound = height;
             }
             i += 1;
         };
-        let o = book.orders[at];
-        let waits = lots_of(o);
-        let lots = lesser(left, waits);
+        let o = floor.orders[at];
+        let lots = left.min(lots_of(o));
         let entry = with_lots(e, left);
-        let turnover = book.turnover[security];
-        book.turnover[security] = trade_with(
-            money, pieces, trades, made, listing, turnover, entry, o, lots,
-        );
-        // A filled order gives its place up. In a function of its own this would copy the book.
-        if waits <= lots {
-            let last = count - 1;
-            let mut j = at;
-            while j < last {
-                let later = book.orders[j + 1];
-                book.orders[j] = later;
-                j += 1;
-            }
-            book.count = last;
-        } else {
-            book.orders[at] = with_lots(o, waits - lots);
-        }
+        let counted = trade_with(floor, rules, trades, made, entry, o, lots);
+        floor.turnover[e.security as usize] = counted;
+        floor.count = take_off(&mut floor.orders, count, at, lots);
         left -= lots;
         made += 1;
     }
-    book.codes[e.participant as usize] = e.code;
-    book.filled = wanted - left;
-    book.left = left;
-    book.trades = made as u64;
-    book.code = e.code;
-    book
+    Matched {
+        left,
+        trades: made as u64,
+    }
 }

@@ -1,34 +1,31 @@
 // The opening of a trading day: its arguments are asked, and an empty state is handed back.
 #![tactic(auto)]
 
-ghost use Rattle.std.specs.Prelude.{◌≡◌, ◌≤◌};
+ghost use Rattle.std.specs.Prelude.{◌≡◌, ◌≤◌, ◌<◌, MatchOption};
 ghost use Rattle.market.specs.Limits.{max_securities};
 ghost use Rattle.market.specs.Opening.{wrong_line};
 ghost use Rattle.market.specs.Ledger.{whole};
 ghost use Rattle.market.specs.ActStep.{opened_ledger};
-ghost use Rattle.market.specs.Contract.{Opens, empty_state, no_records};
+ghost use Rattle.market.specs.Contract.{Opens, empty_floor, empty_state, no_records};
 ghost use Rattle.opening.specs.Opening.{RefusedOpening};
 
 use market::{
-    Answer, Deal, Kind, LAST_DAY, MAX_RATE, Order, Outcome, Phase, Records, Rules, Security, Side,
-    State, Turnover, accepted,
+    Answer, Deal, Floor, Kind, LAST_DAY, MAX_RATE, Order, Outcome, Phase, Records, Refusal, Rules,
+    Security, Side, State, Turnover,
 };
 use soundness::{counts_sound, row_sound, table_sound};
 
-// The place of the first wrong row, from 1; 0 where all are in range.
-fn first_wrong(rules: Rules) -> u64
-    requires { rules.securities ≤ max_securities }
-    ensures { result ≡ wrong_line rules }
+// The place of the first wrong row, from 1.
+fn first_wrong(rules: &Rules) -> Option<u64>
+    requires { rules.now.securities ≤ max_securities }
+    ensures { MatchOption result (wrong_line rules.now ≡ 0) (λ line. (0 < line) × (wrong_line rules.now ≡ line)) }
 {
-    let mut i: u64 = 0;
-    while i < rules.securities {
-        let row = rules.table[i as usize];
-        if !row_sound(rules.currencies, row) {
-            return i + 1;
+    for i in 0..rules.securities {
+        if !row_sound(rules.currencies, rules.table[i as usize]) {
+            return Some(i + 1);
         }
-        i += 1;
     }
-    0
+    None
 }
 
 // No deal is open.
@@ -51,12 +48,10 @@ fn no_deals(date: u64) -> Records
     }
 }
 
-// Counts, table, rate and date as given, everything else at zero.
-fn opened(rules: Rules, date: u64) -> State
-    ensures result_value { whole result ≡ opened_ledger rules date }
-    ensures value { result ≡ empty_state rules date }
+// Nothing has happened yet.
+fn empty_floor() -> Floor
+    ensures { result ≡ empty_floor }
 {
-    let table = rules.table;
     let blank = Order {
         code: 0,
         participant: 0,
@@ -66,27 +61,34 @@ fn opened(rules: Rules, date: u64) -> State
         security: 0,
         kind: Kind::Kept(0),
     };
-    State {
-        participants: rules.participants,
-        currencies: rules.currencies,
-        securities: rules.securities,
-        table,
-        money: [0; 544],
-        pieces: [0; 544],
+    Floor {
+        phase: Phase::Open,
         orders: [blank; 128],
         count: 0,
         codes: [0; 16],
-        phase: Phase::Open,
         turnover: [Turnover {
             pieces: 0,
             value: 0,
         }; 16],
-        rate: rules.rate,
+        money: [0; 544],
+        pieces: [0; 544],
+    }
+}
+
+// Rules and date as given, everything else at zero.
+fn opened(rules: Rules, date: u64) -> State
+    ensures result_value { whole result ≡ opened_ledger rules date }
+    ensures value { result ≡ empty_state rules date }
+{
+    State {
+        rules,
+        floor: empty_floor(),
         records: no_deals(date),
     }
 }
 
-// What a refused opening hands back: zeros, which is unsound.
+// What a refused opening hands back: zeros, which is unsound. The number isn't a `Refusal`: this answers any, and a narrower
+// type would ask more.
 pub fn refused_opening(number: u64, place: u64) -> Outcome
     ensures { RefusedOpening number place result }
 {
@@ -102,10 +104,9 @@ pub fn refused_opening(number: u64, place: u64) -> Outcome
         }; 16],
         rate: 0,
     };
-    let state = opened(none, 0);
     Outcome {
         answer: Answer::Refused(number, place),
-        state,
+        state: opened(none, 0),
     }
 }
 
@@ -113,22 +114,23 @@ pub fn opening(rules: Rules, date: u64) -> Outcome
     ensures { Opens rules date result }
 {
     if !counts_sound(rules.participants, rules.currencies, rules.securities) {
-        return refused_opening(17, 0);
+        return refused_opening(Refusal::CountsOutOfRange.number(), 0);
     }
-    let wrong = first_wrong(rules);
-    if wrong != 0 {
-        return refused_opening(18, wrong);
+    if let Some(line) = first_wrong(&rules) {
+        return refused_opening(Refusal::WrongLine.number(), line);
     }
-    let table = rules.table;
     // Every line is in range, so that a security that isn't sound has a wrong nominal.
-    if !table_sound(rules.currencies, rules.securities, table) {
-        return refused_opening(23, 0);
+    if !table_sound(rules.currencies, rules.securities, rules.table) {
+        return refused_opening(Refusal::NominalOutOfRange.number(), 0);
     }
     if MAX_RATE < rules.rate {
-        return refused_opening(22, 0);
+        return refused_opening(Refusal::RateOutOfRange.number(), 0);
     }
     if LAST_DAY < date {
-        return refused_opening(24, 0);
+        return refused_opening(Refusal::DayOutOfRange.number(), 0);
     }
-    accepted(opened(rules, date))
+    Outcome {
+        answer: Answer::Done(0, 0, 0, 0),
+        state: opened(rules, date),
+    }
 }

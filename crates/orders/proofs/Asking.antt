@@ -1,143 +1,141 @@
--- The questions of an order in the parts in which code asks them.
-use Prim.Native.Nat.{ℕ, ◌<◌}
+-- The questions of an order, as the code asks them on a floor.
+use Prim.Native.Nat.{ℕ, ◌≤◌, ◌<◌}
 use native.Mathlib.Omega.{arith}
-use mathlib.Core.Path.{◌≡◌, refl, ap, sym, ◌∙◌}
+use mathlib.Core.Path.{◌≡◌, refl, sym, subst, ◌∙◌}
 use mathlib.Core.List.{List, [], ◌∷◌, ◌++◌}
-use mathlib.Core.Bool.{true}
-use lib.ListN.{get_or}
-use borrow.Author.Tests.{ltb-true}
+use mathlib.Core.Bool.{Bool, true, false}
+use lib.ListN.{length, take}
+use borrow.Author.Tests.{ltb-false, ltb-true}
 use Rattle.market.specs.declared.Access.{Access}
-use Rattle.market.specs.declared.Ticket.{Ticket}
+use Rattle.market.specs.declared.Floor.{Floor}
 use Rattle.market.specs.declared.Order.{Order}
-use Rattle.market.specs.declared.OrderBook.{OrderBook}
-use Rattle.market.specs.declared.Phase.{Phase}
-use Rattle.market.specs.declared.Listing.{Listing}
+use Rattle.market.specs.declared.Refusal.{Refusal}
+use Rattle.market.specs.declared.Refusal.TheVariants.{Unsound}
+use Rattle.market.specs.declared.Rules.{Rules}
+use Rattle.market.specs.declared.Ticket.{Ticket}
 use Rattle.market.specs.declared.TimeInForce.{TimeInForce}
 use Rattle.market.specs.declared.TimeInForce.TheVariants.{FillOrKill, ImmediateOrCancel, Kept}
-use Rattle.market.specs.declared.Turnover.{Turnover}
-use Rattle.market.specs.Limits.{max_lots, max_participants, max_securities}
-use Rattle.market.specs.declared.Rules.{Rules}
-use Rattle.market.specs.Day.{Day, turnover_at}
+use Rattle.market.specs.Limits.{max_lots, max_waiting}
+use Rattle.market.specs.Day.{Day, no_order, row}
+use Rattle.market.specs.Tests.{◌<?◌}
 use Rattle.market.specs.View.{day_of}
-use Rattle.market.specs.Codes.{codes_of}
-use Rattle.market.specs.Sound.{price_sound}
 use Rattle.market.specs.Calls.{entry_of}
 use Rattle.market.specs.Matching.{fits, fitting}
-use Rattle.market.specs.Questions.{Question, ask, entry_questions, fillable, first_no, order_questions, room_for}
+use Rattle.market.specs.Phases.{admits}
+use Rattle.market.specs.Questions.{Question, ask, covered, entry_questions, fillable, first_no, order_questions, room_for}
+use Rattle.market.specs.Refusals.{number_of}
+use Rattle.market.specs.Sound.{price_sound}
 use Rattle.market.proofs.Logic.{within_high}
-use Rattle.market.specs.Parts.{listing}
-use Rattle.market.proofs.Known.{listing_ok, price_bounds}
-use Rattle.market.proofs.Questions.{AllYes, all_yes, hides, passes}
-use Rattle.market.proofs.View.{first_length}
-use Rattle.matching.specs.Orders.{waiting_in}
-use Rattle.codes.specs.Numbers.{Numberable}
+use Rattle.market.proofs.Known.{OrderOk, RulesOk, price_bounds}
+use Rattle.market.proofs.Lists.{all_at}
+use Rattle.market.proofs.Questions.{all_yes, hides, passes}
+use Rattle.market.proofs.View.{cut_at, first_length, first_take}
+use Rattle.std.proofs.lemmas.List.{get_or_past}
+use Rattle.invariant.specs.Standing.{Standing}
+use Rattle.matching.specs.Orders.{FewLots}
+use Rattle.matching.proofs.Ready.{few_waiting}
 use Rattle.waiting.specs.Claims.{Reckonable}
-use Rattle.waiting.proofs.Days.{covered_is}
-use Rattle.orders.specs.Entering.{Askable, EntryNo, Known, claim_with, early_questions, entry_with, fillable_in, later_questions}
-use Rattle.orders.specs.Entering.{order_no, room_with}
+use Rattle.waiting.proofs.Claims.{known_reckons}
+use Rattle.orders.specs.Entering.{Askable, claim_with, fillable_in, later_questions, open_questions, order_no, room_with}
 
--- the need of an entry with a good price can be reckoned
-pub reckonable : (l : Listing) (t : Turnover) {p : ℕ} {m : Ticket} → Askable l p m
-    → price_sound l.row m.price ≡ true → Reckonable l t (claim_with p m)
-reckonable l t {p} {m} a price = record {
-  participant = a.participant;
-  security = a.security;
-  currency = a.currency;
-  listing = a.listing;
-  limit = (price_bounds l.row m.price price).1;
-  top = a.top;
-}
+-- a refusal has a number
+pub positive : (q : Refusal) → 0 < number_of q
+positive Unsound = omega arith
+positive _ = omega arith
 
--- a known participant's order can be numbered
-pub counted : {r : Rules} {codes : List ℕ} {p : ℕ} → Known r codes → p < r.participants
-    → Numberable r.participants codes p
-counted k h = record { few = k.rules.participants; codes = k.codes; participant = h }
+module _ (r : Rules) (f : Floor) where
+  abbrev d : Day
+  d = day_of r f
 
--- numbering changes nothing of what question 15 reads
-pub numbered_alike : (k : TimeInForce) (w : List Order) (n : ℕ) (codes : List ℕ) (p : ℕ) (m : Ticket)
-    → fillable_in k w (entry_with n codes p m) ≡ fillable_in k w (claim_with p m)
-unfolding fitting fits
-numbered_alike Kept w n codes p m = refl
-numbered_alike ImmediateOrCancel w n codes p m = refl
-numbered_alike FillOrKill w n codes p m = refl
+  pub counted : Standing d → f.count ≤ max_waiting
+  counted st = omega (arith, st.room, first_length f.count f.orders)
 
--- the table's questions, of a day of these parts
-module _ (r : Rules) (x : Phase) (money pieces : List ℕ) (b : OrderBook) (p : ℕ) (m : Ticket) (a : Access) (k : TimeInForce)
-  where
-    abbrev d : Day
-    d = day_of r x money pieces b
+  -- each counted order has its place: past the places is one of no lots
+  inside : Standing d → f.count ≤ length f.orders
+  inside st = go (length f.orders <? f.count) refl
+    where
+      go : (b : Bool) → (length f.orders <? f.count) ≡ b → f.count ≤ length f.orders
+      go true e =
+          let h = ltb-true (length f.orders) f.count e in
+          let ok = all_at (OrderOk r) no_order d.waiting (length f.orders) st.orders (omega (arith, h, first_length f.count f.orders)) in
+          let past = cut_at no_order f.count f.orders (length f.orders) h ∙ get_or_past f.orders (length f.orders) no_order (omega arith) in
+          let none : 0 < no_order.lots = subst (λ (o : Order). 0 < o.lots) past ok.lots in
+          omega (arith, none)
+      go false e = ltb-false (length f.orders) f.count e
 
-    room_is : (k : TimeInForce) → room_with k b.count ≡ room_for k d
-    room_is Kept = rw (first_length b.count b.orders)
-    room_is ImmediateOrCancel = refl
-    room_is FillOrKill = refl
+  -- the orders lent to the search
+  pub lent_waiting : Standing d → take f.count f.orders ≡ d.waiting
+  lent_waiting st = sym (first_take f.count f.orders (inside st))
 
-    -- those from 4 to 14
-    asked_in_parts : first_no (entry_questions d p m a k)
-        ≡ first_no (early_questions r.participants r.securities x p m a
-        ++ later_questions (listing r m.security) (turnover_at b.turnover m.security) b.count (codes_of d p) p m k money pieces)
-    asked_in_parts = rw (room_is k, ← covered_is d (listing r m.security) (entry_of d p m) refl)
+  pub few_lent : Standing d → FewLots (take f.count f.orders)
+  few_lent st = rw (lent_waiting st) (few_waiting d st)
 
-    fillable_is : (k : TimeInForce) → fillable_in k (waiting_in b) (claim_with p m) ≡ fillable k d (entry_of d p m)
-    unfolding fitting fits
-    fillable_is Kept = refl
-    fillable_is ImmediateOrCancel = refl
-    fillable_is FillOrKill = refl
+  module _ (p : ℕ) (m : Ticket) where
+    -- the need of a claim with a good price can be reckoned
+    pub reckonable : Askable d p m → price_sound (row r m.security) m.price ≡ true → Reckonable d (claim_with p m)
+    reckonable a price =
+        known_reckons d (claim_with p m) a.rules a.participant a.security (price_bounds (row r m.security) m.price price).1 a.top
 
-    -- and 15 after them
-    pub whole_last : order_no d p m a k
-        ≡ first_no (entry_questions d p m a k ++ (ask 15 (fillable_in k (waiting_in b) (claim_with p m)) ∷ []))
-    unfolding order_questions
-    whole_last = rw (fillable_is k)
+    module _ (a : Access) (k : TimeInForce) where
+      abbrev early : List Question
+      early = open_questions r (admits f.phase a) p m.security m.lots
 
--- the first "no" of 4 to 14, where so many codes are given
-module _ (r : Rules) (x : Phase) (codes : List ℕ) (p : ℕ) (m : Ticket) (a : Access) (k : TimeInForce) where
-  abbrev early : List Question
-  early = early_questions r.participants r.securities x p m a
+      abbrev later : List Question
+      later = later_questions r f p m k
 
-  abbrev later : List Turnover → ℕ → (codes money pieces : List ℕ) → List Question
-  later t count codes money pieces =
-      later_questions (listing r m.security) (turnover_at t m.security) count (get_or codes p 0) p m k money pieces
+      room_is : (k : TimeInForce) → room_with k f.count ≡ room_for k d
+      room_is Kept = rw (first_length f.count f.orders)
+      room_is ImmediateOrCancel = refl
+      room_is FillOrKill = refl
 
-  pub no_early : (t : List Turnover) (count : ℕ) (money pieces : List ℕ) (n : ℕ) → 0 < n → n ≡ first_no early
-      → EntryNo r x t count codes money pieces p m a k n
-  no_early t count money pieces n h e = λ b turnover counted given.
-      let rest = later b.turnover b.count b.codes money pieces in
-      e ∙ sym (asked_in_parts r x money pieces b p m a k ∙ hides early rest (omega arith))
+      -- neither need nor fit reads code or arrival
+      fillable_is : (k : TimeInForce) → fillable_in k d.waiting (claim_with p m) ≡ fillable k d (entry_of d p m)
+      unfolding fitting fits
+      fillable_is Kept = refl
+      fillable_is ImmediateOrCancel = refl
+      fillable_is FillOrKill = refl
 
-  -- 4 to 7 are answered "yes"
-  module _ (known : Known r codes) (none : first_no early ≡ 0) where
-    yeses : AllYes early
-    yeses = all_yes early tt none
+      covered_is : covered d (claim_with p m) ≡ covered d (entry_of d p m)
+      unfolding covered
+      covered_is = refl
 
-    listed : m.security < r.securities
-    listed = ltb-true m.security r.securities yeses.1.0
+      -- the questions that read no waiting order, and the one that does
+      abbrev asked : List Question
+      asked = entry_questions d p m a k
 
-    pub in_rules : m.security < max_securities
-    in_rules = omega (arith, listed, known.rules.securities)
+      abbrev last : List Question
+      last = ask 15 (fillable k d (entry_of d p m)) ∷ []
 
-    -- his count stands in the book
-    pub in_counts : p < max_participants
-    in_counts = omega (arith, ltb-true p r.participants yeses.0, known.rules.participants)
+      -- the former are the early ones and the later ones
+      asked_in_turn : first_no asked ≡ first_no (early ++ later)
+      asked_in_turn = rw (room_is k, covered_is)
 
-    pub askable : Askable (listing r m.security) p m
-    askable =
-        let ok = known.rules in
-        record {
-          step = ok.step m.security listed;
-          participant = in_counts;
-          security = omega (arith, listed, ok.securities);
-          currency = omega (arith, ok.currency m.security listed, ok.currencies);
-          listing = listing_ok r m.security ok listed;
-          top = within_high 1 max_lots m.lots yeses.1.1.1.0;
-        }
+      module _ (none : first_no early ≡ 0) where
+        pub askable : RulesOk r → Askable d p m
+        askable ok =
+            let y = all_yes early tt none in
+            record {
+              rules = ok;
+              participant = ltb-true p r.participants y.0;
+              security = ltb-true m.security r.securities y.1.0;
+              top = within_high 1 max_lots m.lots y.1.1.1.0;
+            }
 
-    pub no_later : (t : List Turnover) (count : ℕ) (money pieces : List ℕ) (n : ℕ)
-        → n ≡ first_no (later t count codes money pieces) → EntryNo r x t count codes money pieces p m a k n
-    no_later t count money pieces n e = λ b turnover counted given.
-        let rest = later b.turnover b.count b.codes money pieces in
-        e
-        ∙ ap (λ (z : List Turnover). first_no (later z count codes money pieces)) (sym turnover)
-        ∙ ap (λ (z : ℕ). first_no (later b.turnover z codes money pieces)) (sym counted)
-        ∙ ap (λ (z : List ℕ). first_no (later b.turnover b.count z money pieces)) (sym given)
-        ∙ sym (asked_in_parts r x money pieces b p m a k ∙ passes early rest yeses)
+        pub no_later : first_no later ≡ first_no asked
+        no_later = sym (asked_in_turn ∙ passes early later (all_yes early tt none))
+
+      pub no_early : (q : Refusal) → number_of q ≡ first_no early → number_of q ≡ first_no asked
+      no_early q e = e ∙ sym (asked_in_turn ∙ hides early later (omega (arith, e, positive q)))
+
+      pub no_asked : (q : Refusal) → number_of q ≡ first_no asked → number_of q ≡ order_no d p m a k
+      unfolding order_questions
+      no_asked q e = e ∙ sym (hides asked last (omega (arith, e, positive q)))
+
+      -- all but 15 are answered "yes"
+      module _ (none : 0 ≡ first_no asked) where
+        pub in_lots : m.lots ≤ max_lots
+        in_lots = within_high 1 max_lots m.lots (all_yes asked tt (sym none)).1.1.1.0
+
+        pub only_fifteen : first_no (ask 15 (fillable_in k d.waiting (claim_with p m)) ∷ []) ≡ order_no d p m a k
+        unfolding order_questions
+        only_fifteen = rw (fillable_is k) (sym (passes asked last (all_yes asked tt (sym none))))

@@ -1,159 +1,153 @@
--- From the questions and the entry of an order on the parts of a sound day to the contract of the call.
+-- From the questions and the entry of an order on a sound floor to the contract of the call.
 use Prim.Native.Nat.{ℕ, ◌≤◌, ◌<◌}
 use native.Mathlib.Omega.{arith}
-use mathlib.Core.Path.{◌≡◌, refl, ap, sym, ◌∙◌, subst}
+use mathlib.Core.Path.{◌≡◌, ap, sym, ◌∙◌, subst}
 use mathlib.Core.List.{List}
 use mathlib.Core.Bool.{true, false}
 use lib.ListN.{length}
-use borrow.Author.Tests.{le-leb, lt-leb}
-use Rattle.market.specs.declared.Answer.TheVariants.{Done, Refused}
-use Rattle.market.specs.declared.Ticket.{Ticket}
+use borrow.Author.Tests.{ltb-true, le-leb, lt-leb}
+use Rattle.market.specs.declared.Access.{Access}
+use Rattle.market.specs.declared.Answer.{Answer}
+use Rattle.market.specs.declared.Answer.TheVariants.{Refused}
+use Rattle.market.specs.declared.Floor.{Floor}
 use Rattle.market.specs.declared.Order.{Order}
-use Rattle.market.specs.declared.OrderBook.{OrderBook}
-use Rattle.market.specs.declared.Phase.{Phase}
 use Rattle.market.specs.declared.Phase.TheVariants.{Open}
+use Rattle.market.specs.declared.Refusal.{Refusal}
 use Rattle.market.specs.declared.Rules.{Rules}
+use Rattle.market.specs.declared.Ticket.{Ticket}
 use Rattle.market.specs.declared.TimeInForce.{TimeInForce}
-use Rattle.market.specs.Limits.{lent_at_least, max_lots, max_securities}
+use Rattle.market.specs.Limits.{lent_at_least, max_lots}
 use Rattle.market.specs.Day.{Day}
 use Rattle.market.specs.View.{day_of}
 use Rattle.market.specs.Sound.{is_collecting}
 use Rattle.market.specs.TradeList.{written}
 use Rattle.market.specs.Answers.{Result}
-use Rattle.market.specs.Calls.{Call, order}
-use Rattle.market.specs.Phases.{order_access}
-use Rattle.market.specs.Questions.{Question, entry_questions, first_no, questions}
+use Rattle.market.specs.Calls.{Call, entry_of, order}
+use Rattle.market.specs.Phases.{admits, order_access}
+use Rattle.market.specs.Questions.{first_no, order_questions, questions}
+use Rattle.market.specs.Refusals.{number_of}
 use Rattle.market.specs.Entry.{entered, placed, taken}
 use Rattle.market.specs.Step.{effect}
-use Rattle.market.specs.Parts.{Carries, Ready, listing}
-use Rattle.market.proofs.Questions.{all_yes, yes}
-use Rattle.market.proofs.Phases.{enters_kept}
+use Rattle.market.specs.Parts.{Carries, Ready}
+use Rattle.market.proofs.Logic.{within_high}
+use Rattle.market.proofs.Questions.{AllYes, all_yes, yes}
+use Rattle.market.proofs.Phases.{enters_kept, enters_open}
 use Rattle.market.proofs.Entry.{taken_matched, taken_waits}
 use Rattle.market.proofs.Parts.{carries_accept, carries_refuse}
-use Rattle.invariant.specs.Standing.{Standing}
+use Rattle.invariant.specs.Standing.{Placeable, Standing}
+use Rattle.invariant.proofs.Placed.{kept_placeable}
 use Rattle.invariant.proofs.Sound.{ready_standing}
-use Rattle.matching.specs.Filling.{open_day}
-use Rattle.matching.specs.Orders.{FewLots, waiting_in}
 use Rattle.codes.specs.Numbers.{Numberable}
-use Rattle.waiting.specs.Appending.{Admits, Appendable, Appends}
-use Rattle.orders.specs.Entering.{Accepts, Enterable, Enters, Known, claim_with, entry_with, fillable_in, order_no}
-use Rattle.orders.proofs.Answered as answered
+use Rattle.orders.specs.Entering.{Enterable, Enters, order_no}
+use Rattle.orders.proofs.Asking.{counted, positive}
 
-module _ (r : Rules) (x : Phase) (m k : List ℕ) (b : OrderBook) (ready : Ready r x m k b) where
+-- what the questions of an order or a member tell, each answered "yes"
+module _ (r : Rules) (f : Floor) (standing : Standing (day_of r f)) (p : ℕ) (t : Ticket) (a : Access) (k : TimeInForce)
+    (none : order_no (day_of r f) p t a k ≡ 0) where
   abbrev d : Day
-  d = day_of r x m k b
+  d = day_of r f
 
-  standing : Standing d
-  standing = ready_standing ready
+  yeses : AllYes (order_questions d p t a k)
+  unfolding order_questions
+  yeses = all_yes (order_questions d p t a k) tt none
 
-  pub rules_known : Known r b.codes
-  rules_known = answered.rules_known r x m k b standing
+  pub numberable : Numberable r.participants f.codes p
+  unfolding order_questions
+  numberable = record {
+    few = standing.backed.rules_ok.participants;
+    codes = standing.limit;
+    participant = ltb-true p r.participants (yes 4 (order_questions d p t a k) yeses);
+  }
 
-  pub few_lots : FewLots b.count (waiting_in b)
-  few_lots = answered.few_lots r x m k b standing
+  pub in_lots : t.lots ≤ max_lots
+  unfolding order_questions
+  in_lots = within_high 1 max_lots t.lots (yes 7 (order_questions d p t a k) yeses)
 
-  -- an order, with the list v lent
-  module _ (p : ℕ) (t : Ticket) (f : TimeInForce) (v : List ℕ) where
-    abbrev asked : List Question
-    asked = entry_questions d p t (order_access f) f
+  pub enters : admits f.phase a ≡ true
+  unfolding order_questions
+  enters = yes 6 (order_questions d p t a k) yeses
 
-    abbrev call : Call
-    call = order p t f
+  -- the order as it enters
+  pub enterable : f.phase ≡ Open → {e : Order} → e ≡ entry_of d p t → (v : List ℕ) → lent_at_least ≤ length v
+      → Enterable r f e k v
+  enterable opens entry v lent = record {
+    opens = opens;
+    standing = standing;
+    participant = p;
+    member = t;
+    access = a;
+    entry = entry;
+    asked = none;
+    lent = omega (arith, lent, counted r f standing);
+  }
 
-    abbrev declines : ℕ → Type 0
-    declines n = Carries r x m k b v call m k v (record { answer = Refused n 0; phase = x; book = b })
+-- an order, with the list v lent
+module _ (r : Rules) (f : Floor) (ready : Ready r f) (p : ℕ) (t : Ticket) (k : TimeInForce) (v : List ℕ) where
+  abbrev d2 : Day
+  d2 = day_of r f
 
-    pub refuse_short : length v < lent_at_least → declines 2
+  abbrev call : Call
+  call = order p t k
+
+  pub refuse_short : length v < lent_at_least → Carries r f v call f v (Refused 2 0)
+  unfolding questions
+  refuse_short h =
+      carries_refuse r f v call ready.sound 2 (omega arith) (rw (lt-leb lent_at_least (length v) h))
+
+  module _ (lent : lent_at_least ≤ length v) where
+    from_four : first_no (questions d2 (length v) call) ≡ order_no d2 p t (order_access k) k
     unfolding questions
-    refuse_short h =
-        carries_refuse r x m k b v call ready.sound 2 (omega arith) (rw (lt-leb lent_at_least (length v) h))
+    from_four = rw (le-leb lent_at_least (length v) lent)
 
-    module _ (lent : lent_at_least ≤ length v) where
-      from_four : first_no (questions d (length v) call) ≡ order_no d p t (order_access f) f
-      unfolding questions
-      from_four = rw (le-leb lent_at_least (length v) lent)
+    -- the first "no" of those from 4 on, where question 6 is asked of access a
+    module _ {a : Access} (access : a ≡ order_access k) where
+      asked_of : order_no d2 p t a k ≡ order_no d2 p t (order_access k) k
+      asked_of = ap (λ (z : Access). order_no d2 p t z k) access
 
-      pub refuse_first : (n : ℕ) → 0 < n → n ≡ first_no asked → declines n
-      refuse_first n h e =
-          carries_refuse r x m k b v call ready.sound n h (from_four ∙ answered.no_first r x m k b standing p t (order_access f) f n h e)
+      pub refuse_asked : (q : Refusal) → number_of q ≡ order_no d2 p t a k → Carries r f v call f v (Refused (number_of q) 0)
+      refuse_asked q e =
+          carries_refuse r f v call ready.sound (number_of q) (positive q) (from_four ∙ sym (e ∙ asked_of))
 
-      -- while collecting, question 15 is not asked
-      pub collects_whole : first_no asked ≡ 0 → is_collecting x ≡ true → fillable_in f (waiting_in b) (claim_with p t) ≡ true
-      collects_whole none collects =
-          let kept = enters_kept f x (yes 6 asked (all_yes asked tt none)) collects in
-          subst (λ (g : TimeInForce). fillable_in g (waiting_in b) (claim_with p t) ≡ true) (sym kept) refl
+      -- there is none
+      module _ (clear : 0 ≡ order_no d2 p t a k) where
+        none : order_no d2 p t (order_access k) k ≡ 0
+        none = sym (clear ∙ asked_of)
 
-      module _ (none : first_no asked ≡ 0) where
-        pub numberable : Numberable r.participants b.codes p
-        numberable = answered.numberable r x m k b standing p t (order_access f) f none
+        module _ {e : Order} (entry : e ≡ entry_of d2 p t) where
+          -- while collecting it is a kept one, which only waits
+          pub waits : is_collecting f.phase ≡ true → Placeable d2 e
+          waits collects =
+              let kept = enters_kept k f.phase (enters r f (ready_standing ready) p t (order_access k) k none) collects in
+              rw entry
+              (kept_placeable d2 p t (subst (λ (z : TimeInForce). order_no d2 p t (order_access z) z ≡ 0) kept none))
 
-        pub in_lots : t.lots ≤ max_lots
-        in_lots = answered.in_lots r x m k b standing p t (order_access f) f none
+          pub order_waits : is_collecting f.phase ≡ true → {f' : Floor} {x : Answer} → x ≡ (placed d2 e).answer
+              → day_of r f' ≡ (placed d2 e).day → Carries r f v call f' v x
+          unfolding effect placed
+          order_waits collects {f'} {x} answer day =
+              let same : effect d2 call ≡ placed d2 e =
+              ap (λ (z : Order). taken d2 z k) (sym entry) ∙ taken_waits d2 e k collects in
+              rw answer
+              (carries_accept r f v call ready.sound f' v _ _ _ _ (from_four ∙ none)
+              (sym (ap (λ (z : Result). z.answer) same))
+              (day ∙ sym (ap (λ (z : Result). z.day) same))
+              (sym (ap (λ (z : Result). written z.trades v) same)))
 
-        pub refuse_whole : fillable_in f (waiting_in b) (claim_with p t) ≡ false → declines 15
-        refuse_whole h =
-            carries_refuse r x m k b v call ready.sound 15 (omega arith)
-            (from_four ∙ answered.no_whole r x m k b standing p t (order_access f) f none h)
+          -- otherwise it is matched
+          pub opens : is_collecting f.phase ≡ false → f.phase ≡ Open
+          opens matched = enters_open k f.phase (enters r f (ready_standing ready) p t (order_access k) k none) matched
 
-        -- question 15 is answered "yes"
-        module _ (whole : fillable_in f (waiting_in b) (claim_with p t) ≡ true) where
-          clear : order_no d p t (order_access f) f ≡ 0
-          clear = answered.no_none r x m k b standing p t (order_access f) f none whole
+          pub enters_now : is_collecting f.phase ≡ false → Enterable r f e k v
+          enters_now matched = enterable r f (ready_standing ready) p t (order_access k) k none (opens matched) entry v lent
 
-          -- its security stands in the table
-          pub in_table : t.security < max_securities
-          in_table = answered.in_table r x m k b standing p t (order_access f) f clear
-
-          -- the order is registered with what the book has last
-          abbrev registers : (m' k' v' : List ℕ) → OrderBook → Type 0
-          registers m' k' v' b' =
-              Carries r x m k b v call m' k' v'
-              (record { answer = Done b'.code b'.filled b'.left b'.trades; phase = x; book = b' })
-
-          -- the order as it enters
-          module _ {e : Order} (entry : e ≡ entry_with r.participants b.codes p t) where
-            -- while collecting it only waits
-            module _ (collects : is_collecting x ≡ true) where
-              waits : Admits r x (listing r t.security) b e m k
-              waits = answered.waits r x m k b standing p t f clear collects entry
-
-              pub appendable : Appendable (listing r t.security) b e m k
-              appendable = record { rules = r; phase = x; admits = waits }
-
-              pub order_waits : (m' k' : List ℕ) (b' : OrderBook) → Appends (listing r t.security) b e m k m' k' b'
-                  → registers m' k' v b'
-              unfolding effect placed
-              order_waits m' k' b' appends =
-                  let y = appends r x waits in
-                  let same : effect d call ≡ placed d e =
-                  ap (λ (z : Order). taken d z f) (sym entry) ∙ taken_waits d e f collects in
-                  carries_accept r x m k b v call ready.sound m' k' v _ (from_four ∙ clear)
-                  (y.answer ∙ sym (ap (λ (z : Result). z.answer) same))
-                  (y.day ∙ sym (ap (λ (z : Result). z.day) same))
-                  (sym (ap (λ (z : Result). written z.trades v) same))
-
-            -- otherwise it is matched
-            module _ (matched : is_collecting x ≡ false) where
-              opens : x ≡ Open
-              opens = answered.order_opens r x m k b standing p t f clear matched
-
-              accepts : Accepts r (listing r t.security) b e f m k
-              accepts = answered.accepts r x m k b standing p t (order_access f) f clear opens entry
-
-              pub enterable : Enterable (listing r t.security) b e f m k v
-              enterable = record { rules = r; accepts = accepts; lent = omega (arith, lent, few_lots.room) }
-
-              effect_is : effect d call ≡ entered (open_day r m k b) e f
-              unfolding effect
-              effect_is =
-                  ap (λ (z : Order). taken d z f) (sym entry) ∙ taken_matched d e f matched
-                  ∙ ap (λ (z : Day). entered z e f) (answered.same_day_lem r x m k b standing p t (order_access f) f clear opens)
-
-              pub order_enters : (m' k' v' : List ℕ) (b' : OrderBook)
-                  → Enters (listing r t.security) b e f m k v m' k' v' b' → registers m' k' v' b'
-              order_enters m' k' v' b' enters =
-                  let y = enters r accepts in
-                  carries_accept r x m k b v call ready.sound m' k' v' _ (from_four ∙ clear)
-                  (y.answer ∙ sym (ap (λ (z : Result). z.answer) effect_is))
-                  (ap (λ (z : Phase). day_of r z m' k' b') opens ∙ y.day ∙ sym (ap (λ (z : Result). z.day) effect_is))
-                  (y.list ∙ sym (ap (λ (z : Result). written z.trades v) effect_is))
+          pub order_enters : is_collecting f.phase ≡ false → {f' : Floor} {v' : List ℕ} {x : Answer} → Enters r f e k v f' v' x
+              → Carries r f v call f' v' x
+          unfolding effect entered
+          order_enters matched {f'} {v'} {x} y =
+              let same : effect d2 call ≡ entered d2 e k =
+              ap (λ (z : Order). taken d2 z k) (sym entry) ∙ taken_matched d2 e k matched in
+              rw y.answer
+              (carries_accept r f v call ready.sound f' v' _ _ _ _ (from_four ∙ none)
+              (sym (ap (λ (z : Result). z.answer) same))
+              (y.day ∙ sym (ap (λ (z : Result). z.day) same))
+              (y.list ∙ sym (ap (λ (z : Result). written z.trades v) same)))

@@ -1,54 +1,49 @@
-// Order entry of the three kinds, and cancellation. Questions are asked by functions that only read, so that a refusal copies nothing;
-// `enter` then moves lent positions and hands the order book on. `listing` and `turnover` are those of the order's security.
+// Order entry of the three kinds, and cancellation, on a lent floor. Questions are asked by functions that only read.
 #![tactic(auto)]
 
 ghost use Rattle.std.specs.Prelude.{◌≡◌, [], ◌≤◌};
 ghost use Rattle.market.specs.Limits.{max_lots, max_waiting};
 ghost use Rattle.market.specs.Waiting.{index_of};
-ghost use Rattle.market.specs.Calls.{cancel as cancelCall, order as orderCall};
+ghost use Rattle.market.specs.Calls.{cancel as cancelCall, entry_of as entryOf, order as orderCall};
 ghost use Rattle.market.specs.Phases.{order_access};
-ghost use Rattle.market.specs.Questions.{first_no};
+ghost use Rattle.market.specs.Questions.{entry_questions, first_no};
+ghost use Rattle.market.specs.Refusals.{number_in};
 ghost use Rattle.market.specs.Entry.{left_waiting};
 ghost use Rattle.market.specs.Parts.{Carries, Ready};
-ghost use Rattle.matching.specs.Orders.{FewLots, waiting_in};
+ghost use Rattle.market.specs.View.{day_of, first_orders};
+ghost use Rattle.market.proofs.Known.{RulesOk};
+ghost use Rattle.invariant.specs.Standing.{Standing};
+ghost use Rattle.matching.specs.Orders.{FewLots};
 ghost use Rattle.codes.specs.Numbers.{Numberable};
-ghost use Rattle.orders.specs.Entering.{Askable, Enterable, Enters, EntryNo, Known, claim_with, entry_with, fillable_in, later_questions, open_questions, room_with};
-ghost use Rattle.orders.specs.Finding.{OfSecurity, found_at, is_own as ownOrder};
+ghost use Rattle.orders.specs.Entering.{Askable, Enterable, Enters, claim_with, fillable_in, later_questions, open_questions, order_no as orderNo, room_with};
+ghost use Rattle.orders.specs.Finding.{found_at, is_own as ownOrder};
 
 use amounts::{price_sound, within};
 use codes::numbered;
 use market::{
-    Access, Answer, Carried, Kind, LENT_AT_LEAST, Listing, MAX_LOTS, MAX_OWN_CODES, MAX_WAITING,
-    Order, OrderBook, Phase, Rules, Ticket, TimeInForce, Turnover, declined, lots_of, registered,
-    unnumbered, with_lots,
+    Access, Answer, Floor, Kind, LENT_AT_LEAST, MAX_LOTS, MAX_OWN_CODES, MAX_WAITING, Order, Phase,
+    Refusal, Rules, Ticket, TimeInForce, lots_of, unnumbered, with_lots,
 };
 use matching::{fill, fitting_lots};
-use phases::{admits, is_collecting};
+use phases::admits;
 use waiting::{append, block_need, covers, free_need, leave};
-
-// Where an order waits in the list, and its security.
-#[derive(Clone, Copy)]
-pub enum Found {
-    Nothing,
-    At(usize, u64),
-}
 
 // The order before it is numbered, which suffices for questions 14 and 15: neither need nor fit reads code or arrival.
 pub fn claim_of(participant: u64, member: Ticket) -> Order
     requires { member.lots ≤ max_lots }
     ensures { result ≡ claim_with participant member }
 {
-    let side = member.side;
     let kind = Kind::Kept(member.price);
-    unnumbered(participant, side, member.security, member.lots, kind)
+    unnumbered(participant, member.side, member.security, member.lots, kind)
 }
 
 // The order as it enters, under the next numbers.
-pub fn entry_of(participants: u64, codes: [u64; 16], participant: u64, member: Ticket) -> Order
-    requires { Numberable participants codes participant × (member.lots ≤ max_lots) }
-    ensures { result ≡ entry_with participants codes participant member }
+pub fn entry_of(floor: &Floor, rules: &Rules, participant: u64, member: Ticket) -> Order
+    requires { Numberable rules.now.participants floor.now.codes participant × (member.lots ≤ max_lots) }
+    ensures { result ≡ entryOf (day_of rules.now floor.now) participant member }
 {
-    numbered(participants, codes, claim_of(participant, member))
+    let claim = claim_of(participant, member);
+    numbered(rules.participants, &floor.codes, claim)
 }
 
 // Only a kept order may come to wait.
@@ -57,20 +52,18 @@ fn has_room(count: usize, force: TimeInForce) -> bool
 {
     match force {
         TimeInForce::Kept => count < MAX_WAITING as usize,
-        TimeInForce::ImmediateOrCancel => true,
-        TimeInForce::FillOrKill => true,
+        _ => true,
     }
 }
 
 // Question 15.
-pub fn is_fillable(book: OrderBook, force: TimeInForce, entry: Order) -> bool
-    requires { FewLots book.count (waiting_in book) }
-    ensures { result ≡ fillable_in force (waiting_in book) entry }
+pub fn is_fillable(waiting: &[Order], force: TimeInForce, entry: Order) -> bool
+    requires { FewLots waiting.now }
+    ensures { result ≡ fillable_in force waiting.now entry }
 {
     match force {
-        TimeInForce::Kept => true,
-        TimeInForce::ImmediateOrCancel => true,
-        TimeInForce::FillOrKill => lots_of(entry) <= fitting_lots(book, entry),
+        TimeInForce::FillOrKill => lots_of(entry) <= fitting_lots(waiting, entry),
+        _ => true,
     }
 }
 
@@ -85,112 +78,95 @@ pub fn access_of(force: TimeInForce) -> Access
     }
 }
 
-// The first "no" of questions 4 to 7, which ask for no row of the table; 0 where there is none. Whether the phase admits
-// the call is asked by the caller.
+// The first "no" of questions 4 to 7, which orders of all kinds and offers are asked. Whether the phase admits the call is asked
+// by the caller.
 pub fn early_no(
-    participants: u64,
-    securities: u64,
+    rules: &Rules,
     admitted: bool,
     participant: u64,
-    member: Ticket,
-) -> u64
-    ensures { result ≡ first_no (open_questions participants securities admitted participant member) }
+    security: u64,
+    lots: u64,
+) -> Result<(), Refusal>
+    ensures { number_in result ≡ first_no (open_questions rules.now admitted participant security lots) }
 {
-    if participants <= participant {
-        return 4;
+    if rules.participants <= participant {
+        return Err(Refusal::UnknownParticipant);
     }
-    if securities <= member.security {
-        return 5;
+    if rules.securities <= security {
+        return Err(Refusal::UnknownAsset);
     }
     if !admitted {
-        return 6;
+        return Err(Refusal::WrongPhase);
     }
-    if !within(1, MAX_LOTS, member.lots) {
-        return 7;
+    if !within(1, MAX_LOTS, lots) {
+        return Err(Refusal::AmountOutOfRange);
     }
-    0
+    Ok(())
 }
 
-// The first "no" of questions 8 and 12 to 14; 0 where there is none.
-fn later_no<'a>(
-    money: &'a [u64; 544],
-    pieces: &'a [u64; 544],
-    listing: Listing,
-    turnover: Turnover,
-    count: usize,
-    own: u64,
+// The first "no" of questions 8 and 12 to 14.
+fn later_no(
+    floor: &Floor,
+    rules: &Rules,
     participant: u64,
-    member: Ticket,
+    ticket: Ticket,
     force: TimeInForce,
-) -> u64
-    requires { Askable listing participant member }
-    ensures { result ≡ first_no (later_questions listing turnover count own participant member force money.now pieces.now) }
+) -> Result<(), Refusal>
+    requires { Askable (day_of rules.now floor.now) participant ticket }
+    ensures { number_in result ≡ first_no (later_questions rules.now floor.now participant ticket force) }
 {
-    if !price_sound(listing.row, member.price) {
-        return 8;
+    if !price_sound(rules.listing(ticket.security).row, ticket.price) {
+        return Err(Refusal::WrongPrice);
     }
-    if !has_room(count, force) {
-        return 12;
+    if !has_room(floor.count, force) {
+        return Err(Refusal::NoRoom);
     }
-    if MAX_OWN_CODES <= own {
-        return 13;
+    if MAX_OWN_CODES <= floor.codes[participant as usize] {
+        return Err(Refusal::NoCodeLeft);
     }
-    let claim = claim_of(participant, member);
-    if !covers(money, pieces, listing, turnover, claim) {
-        return 14;
+    let claim = claim_of(participant, ticket);
+    if !covers(floor, rules, claim) {
+        return Err(Refusal::NotCovered);
     }
-    0
+    Ok(())
 }
 
-// The first "no" of questions 4 to 14, which read no waiting order; 0 where there is none. Question 6 is asked of `access`:
-// an order of its kind, or a member of a group.
-pub fn order_no<'a>(
-    rules: Rules,
-    phase: Phase,
-    turnovers: [Turnover; 16],
-    count: usize,
-    codes: [u64; 16],
-    money: &'a [u64; 544],
-    pieces: &'a [u64; 544],
+// The first "no" of questions 4 to 14, which read no waiting order. Question 6 is asked of `access`: an order of its kind, or a
+// member of a group.
+pub fn order_no(
+    floor: &Floor,
+    rules: &Rules,
     participant: u64,
     ticket: Ticket,
     access: Access,
     force: TimeInForce,
-) -> u64
-    requires { Known rules codes }
-    ensures { EntryNo rules phase turnovers count codes money.now pieces.now participant ticket access force result }
+) -> Result<(), Refusal>
+    requires { RulesOk rules.now }
+    ensures { number_in result ≡ first_no (entry_questions (day_of rules.now floor.now) participant ticket access force) }
 {
-    let admitted = admits(phase, access);
-    let early = early_no(
-        rules.participants,
-        rules.securities,
-        admitted,
-        participant,
-        ticket,
-    );
-    if 0 < early {
-        return early;
+    let admitted = admits(floor.phase, access);
+    early_no(rules, admitted, participant, ticket.security, ticket.lots)?;
+    later_no(floor, rules, participant, ticket, force)
+}
+
+// The first "no" of questions 4 to 15.
+pub fn refusal_of(
+    floor: &Floor,
+    rules: &Rules,
+    participant: u64,
+    ticket: Ticket,
+    access: Access,
+    force: TimeInForce,
+) -> Result<(), Refusal>
+    requires { Standing (day_of rules.now floor.now) }
+    ensures { number_in result ≡ orderNo (day_of rules.now floor.now) participant ticket access force }
+{
+    order_no(floor, rules, participant, ticket, access, force)?;
+    let claim = claim_of(participant, ticket);
+    if !is_fillable(&floor.orders[..floor.count], force, claim) {
+        return Err(Refusal::NotFillable);
     }
-    let security = ticket.security as usize;
-    let table = rules.table;
-    let row = table[security];
-    let turnover = turnovers[security];
-    let own = codes[participant as usize];
-    let listing = Listing {
-        row,
-        rate: rules.rate,
-    };
-    later_no(
-        money,
-        pieces,
-        listing,
-        turnover,
-        count,
-        own,
-        participant,
-        ticket,
-        force,
-    )
+    Ok(())
 }
 
 fn left_waiting(force: TimeInForce, rest: Order) -> u64
@@ -198,157 +174,93 @@ fn left_waiting(force: TimeInForce, rest: Order) -> u64
 {
     match force {
         TimeInForce::Kept => lots_of(rest),
-        TimeInForce::ImmediateOrCancel => 0,
-        TimeInForce::FillOrKill => 0,
+        _ => 0,
     }
 }
 
 // The entry of an order whose questions are all answered "yes": its need is blocked and it is matched, and what is left
 // of it waits or is freed.
 pub fn enter(
-    b: OrderBook,
+    floor: &mut Floor,
+    rules: &Rules,
     entry: Order,
     force: TimeInForce,
-    listing: Listing,
-    money: &mut [u64; 544],
-    pieces: &mut [u64; 544],
     trades: &mut [u64],
-) -> OrderBook
-    requires { Enterable listing b entry force money.old pieces.old trades.old }
-    ensures { Enters listing b entry force money.old pieces.old trades.old money.new pieces.new trades.new result }
+) -> Answer
+    requires { Enterable rules.now floor.old entry force trades.old }
+    ensures { Enters rules.now floor.old entry force trades.old floor.new trades.new result }
 {
-    let security = entry.security as usize;
-    let before = b.turnover[security];
-    block_need(money, pieces, listing, before, entry);
-    let mut book = fill(b, entry, listing, money, pieces, trades);
-    let rest = with_lots(entry, book.left);
+    floor.codes[entry.participant as usize] = entry.code;
+    block_need(floor, rules, entry);
+    let matched = fill(floor, rules, entry, trades);
+    let rest = with_lots(entry, matched.left);
     let waits = left_waiting(force, rest);
-    let after = book.turnover[security];
     // Of a kept order this frees the need of no lots.
-    free_need(
-        money,
-        pieces,
-        listing,
-        after,
-        with_lots(rest, book.left - waits),
-    );
+    free_need(floor, rules, with_lots(rest, matched.left - waits));
     if 0 < waits {
-        let count = book.count;
-        book.orders[count] = rest;
-        book.count = count + 1;
+        floor.orders[floor.count] = rest;
+        floor.count += 1;
     }
-    book.left = waits;
-    book
+    let filled = lots_of(entry) - matched.left;
+    Answer::Done(entry.code, filled, waits, matched.trades)
 }
 
 // An order of any of the three kinds. While collecting a kept one only waits.
 pub fn order(
-    b: OrderBook,
-    rules: Rules,
-    phase: Phase,
+    floor: &mut Floor,
+    rules: &Rules,
     participant: u64,
     ticket: Ticket,
     force: TimeInForce,
-    money: &mut [u64; 544],
-    pieces: &mut [u64; 544],
     trades: &mut [u64],
-) -> Carried
-    requires { Ready rules phase money.old pieces.old b }
-    ensures { Carries rules phase money.old pieces.old b trades.old (orderCall participant ticket force) money.new pieces.new trades.new result }
+) -> Answer
+    requires { Ready rules.now floor.old }
+    ensures { Carries rules.now floor.old trades.old (orderCall participant ticket force) floor.new trades.new result }
 {
     if trades.len() < LENT_AT_LEAST {
-        return declined(b, phase, 2);
+        return Answer::from(Refusal::ListTooShort);
     }
-    let turnovers = b.turnover;
-    let codes = b.codes;
-    let number = order_no(
-        rules,
-        phase,
-        turnovers,
-        b.count,
-        codes,
-        &*money,
-        &*pieces,
-        participant,
-        ticket,
-        access_of(force),
-        force,
-    );
-    if 0 < number {
-        return declined(b, phase, number);
+    let asked = refusal_of(floor, rules, participant, ticket, access_of(force), force);
+    if let Err(refusal) = asked {
+        return Answer::from(refusal);
     }
-    if !is_fillable(b, force, claim_of(participant, ticket)) {
-        return declined(b, phase, 15);
+    let entry = entry_of(floor, rules, participant, ticket);
+    if floor.phase == Phase::Collecting {
+        return append(floor, rules, entry);
     }
-    let entry = entry_of(rules.participants, codes, participant, ticket);
-    let table = rules.table;
-    let row = table[ticket.security as usize];
-    let listing = Listing {
-        row,
-        rate: rules.rate,
-    };
-    if is_collecting(phase) {
-        let placed = append(b, entry, listing, money, pieces);
-        return registered(placed, phase);
-    }
-    let entered = enter(b, entry, force, listing, money, pieces, trades);
-    registered(entered, phase)
+    enter(floor, rules, entry, force, trades)
 }
 
-fn is_own(participant: u64, code: u64, o: Order) -> bool
-    ensures { result ≡ ownOrder participant code o }
+fn is_own(participant: u64, code: u64, o: &Order) -> bool
+    ensures { result ≡ ownOrder participant code o.now }
 {
     participant == o.participant && code == o.code
 }
 
-// The first waiting order of the participant with that code.
-pub fn find(b: OrderBook, participant: u64, code: u64) -> Found
-    requires { b.count ≤ max_waiting }
-    ensures result_value { found_at result ≡ index_of participant code (waiting_in b) }
-    ensures of_security { OfSecurity b.orders result }
+// The place of the participant's first waiting order with that code.
+fn find(floor: &Floor, participant: u64, code: u64) -> Option<usize>
+    requires { floor.now.count ≤ max_waiting }
+    ensures { found_at result ≡ index_of participant code (first_orders floor.now.count floor.now.orders) }
 {
-    let count = b.count;
-    let mut i: usize = 0;
-    while i < count {
-        let o = b.orders[i];
+    for (i, o) in floor.orders[..floor.count].iter().enumerate() {
         if is_own(participant, code, o) {
-            return Found::At(i, o.security);
+            return Some(i);
         }
-        i += 1;
     }
-    Found::Nothing
+    None
 }
 
 // The order gives its place up, and its need is freed.
-pub fn cancel(
-    b: OrderBook,
-    rules: Rules,
-    phase: Phase,
-    participant: u64,
-    code: u64,
-    money: &mut [u64; 544],
-    pieces: &mut [u64; 544],
-) -> Carried
-    requires { Ready rules phase money.old pieces.old b }
-    ensures { Carries rules phase money.old pieces.old b [] (cancelCall participant code) money.new pieces.new [] result }
+pub fn cancel(floor: &mut Floor, rules: &Rules, participant: u64, code: u64) -> Answer
+    requires { Ready rules.now floor.old }
+    ensures { Carries rules.now floor.old [] (cancelCall participant code) floor.new [] result }
 {
     if rules.participants <= participant {
-        return declined(b, phase, 4);
+        return Answer::from(Refusal::UnknownParticipant);
     }
-    let found = find(b, participant, code);
-    let Found::At(at, security) = found else {
-        return declined(b, phase, 16);
+    let Some(at) = find(floor, participant, code) else {
+        return Answer::from(Refusal::NotFound);
     };
-    let table = rules.table;
-    let row = table[security as usize];
-    let listing = Listing {
-        row,
-        rate: rules.rate,
-    };
-    let book = leave(b, at, listing, money, pieces);
-    Carried {
-        answer: Answer::Done(code, 0, 0, 0),
-        phase,
-        book,
-    }
+    leave(floor, rules, at);
+    Answer::Done(code, 0, 0, 0)
 }

@@ -19,6 +19,7 @@ use Rattle.market.specs.Matching.{Best, best, better, fits, found, next, none, p
 use Rattle.market.proofs.Logic.{never}
 use Rattle.market.proofs.Matching.{Chosen, best_chosen, fit}
 use Rattle.market.proofs.View.{first_take}
+use Rattle.std.specs.Prelude.{Option}
 use Rattle.matching.specs.declared.Found.{Found}
 use Rattle.matching.specs.Search.{best_of}
 use Rattle.matching.proofs.Search.{Searched}
@@ -73,7 +74,7 @@ module _ (e : Order) (closing : e.kind ≡ kind.Closing) where
       go false f rest h = ap next (rest (found_before (best e v) h))
 
   -- what was found among the first i orders is the best of all
-  search_decided : {w : List Order} {count i : ℕ} {b : Found} → Searched e w count i b → count ≤ length w
+  search_decided : {w : List Order} {count i : ℕ} {b : Option Found} → Searched e w count i b → count ≤ length w
       → IsFound (best_of b) → best e (first_orders count w) ≡ best_of b
   search_decided {w} {count} {i} {b} h room some =
       let all = first_orders count w in
@@ -88,7 +89,7 @@ module _ (e : Order) (closing : e.kind ≡ kind.Closing) where
 
 -- the code's test, and what it says of both searches
 module _ (x y : Order) {limit : Kind} (ex : x.kind ≡ limit) (ey : y.kind ≡ limit) {w : List Order} {count i : ℕ}
-    {a b : Found} (ha : Searched x w count i a) (hb : Searched y w count i b) (room : count ≤ length w) where
+    {a b : Option Found} (ha : Searched x w count i a) (hb : Searched y w count i b) (room : count ≤ length w) where
   pub both_decided : decided limit (best_of a) (best_of b) ≡ true
       → (best x (first_orders count w) ≡ best_of a) × (best y (first_orders count w) ≡ best_of b)
   both_decided h =

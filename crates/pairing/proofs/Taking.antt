@@ -1,149 +1,86 @@
--- Lots come off two orders of a book, off the later one first: what holds between the two.
-use Prim.Native.Nat.{ℕ, ◌+◌, ◌-◌, ◌≤◌, ◌<◌, max, min}
+-- Lots come off two orders, off the later one first.
+use Prim.Native.Nat.{ℕ, ◌≤◌, ◌<◌, max, min}
 use native.Mathlib.Omega.{arith}
-use mathlib.Core.Path.{◌≡◌, refl, ap, subst, sym, ◌∙◌}
+use mathlib.Core.Path.{◌≡◌, ap, refl, subst, sym, ◌∙◌}
 use mathlib.Core.List.{List}
 use mathlib.Core.Bool.{Bool, true, false, cond}
-use lib.ListN.{length, set}
-use borrow.Author.Tests.{le-ltb, lt-ltb, ltb-true, ltb-false}
+use lib.ListN.{length}
+use borrow.Author.Tests.{ltb-true, ltb-false}
 use Rattle.market.specs.declared.Order.{Order}
-use Rattle.market.specs.declared.OrderBook.{OrderBook}
 use Rattle.market.specs.Limits.{max_lots}
 use Rattle.market.specs.Tests.{◌<?◌}
-use Rattle.market.specs.Day.{no_order, order_at, with_lots}
+use Rattle.market.specs.Day.{no_order}
+use Rattle.market.specs.View.{first_orders}
 use Rattle.market.specs.Waiting.{take_off}
 use Rattle.market.specs.Pairing.{take_both}
 use Rattle.market.proofs.Lists.{All, all_at}
 use Rattle.market.proofs.View.{first_length}
-use Rattle.market.proofs.Waiting.{all_take_off}
-use Rattle.matching.specs.Orders.{waiting_in}
+use Rattle.market.proofs.Waiting.{all_take_off, length_take_off, length_take_off_le}
+use Rattle.matching.specs.Orders.{Takeable, TakenOff}
 use Rattle.matching.proofs.First.{first_at}
-use Rattle.matching.proofs.Removal.{Moved, Off, off_filled, off_less}
 
 -- the lots of an order that waits
 abbrev pub Within : Order → Type 0
 Within o = o.lots ≤ max_lots
 
--- two books that differ in their orders, their count and their trades alone
-pub record Same (b b' : OrderBook) : Type 0 where
-  pub codes : b'.codes ≡ b.codes
-  pub turnover : b'.turnover ≡ b.turnover
-  pub filled : b'.filled ≡ b.filled
-  pub left : b'.left ≡ b.left
-
--- lots off the order at this place, and off the earlier one unless it is that
-abbrev remaining : List Order → ℕ → ℕ → ℕ → List Order
-remaining w earlier place n = cond (earlier <? place) (take_off (take_off w place n) earlier n) (take_off w place n)
-
--- n lots are to come off the order at this place of b, then off the earlier one: with those off that came off already, they
--- come off the orders at places i and j of b₀
-pub record Taking (b₀ b : OrderBook) (i j n earlier place : ℕ) : Type 0 where
-  pub low : earlier ≤ place
-  pub inside : place < b.count
-  pub room : b.count ≤ length b.orders
-  pub long : length b.orders ≡ length b₀.orders
-  pub same : Same b₀ b
-  pub within : All Within (waiting_in b)
-  pub rest : remaining (waiting_in b) earlier place n ≡ take_both (waiting_in b₀) i j n
-
-pub taking_starts : (b : OrderBook) (i j n earlier later : ℕ) → b.count ≤ length b.orders → i < b.count → j < b.count
-    → (i ≡ j → ⊥) → earlier ≡ min i j → later ≡ max i j → All Within (waiting_in b)
-    → Taking b b i j n earlier later
-unfolding take_both
-taking_starts b i j n earlier later room hi hj apart first second within = record {
-  low = omega (arith, first, second);
-  inside = omega (arith, second);
+takeable : (w : List Order) (count i : ℕ) → i < count → count ≤ length w → All Within (first_orders count w)
+    → Takeable w count i
+takeable w count i h room within = record {
+  inside = h;
   room = room;
-  long = refl;
-  same = record { codes = refl; turnover = refl; filled = refl; left = refl };
-  within = within;
-  rest = go (i <? j) refl;
+  top =
+      rw (sym (first_at count w i h))
+      (all_at Within no_order (first_orders count w) i within (omega (arith, first_length count w)));
 }
-  where
-    w : List Order
-    w = waiting_in b
 
-    go : (x : Bool) → (i <? j) ≡ x
-        → remaining (waiting_in b) earlier later n
-        ≡ cond x (take_off (take_off w j n) i n) (take_off (take_off w i n) j n)
-    go true e =
-        let l = ltb-true i j e in
-        let a : earlier ≡ i = omega arith in
-        let c : later ≡ j = omega arith in
-        rw (a, c, lt-ltb i j l)
-    go false e =
-        let l : j < i = omega (arith, ltb-false i j e) in
-        let a : earlier ≡ j = omega arith in
-        let c : later ≡ i = omega arith in
-        rw (a, c, lt-ltb j i l)
+-- two of the first `count` orders, at places i and j
+pub record Taking (w : List Order) (count i j later earlier : ℕ) : Type 0 where
+  pub one : i < count
+  pub other : j < count
+  pub apart : i ≡ j → ⊥
+  pub room : count ≤ length w
+  pub within : All Within (first_orders count w)
+  pub last : later ≡ max i j
+  pub first : earlier ≡ min i j
 
--- they are off the order at this place
-pub record Taken (b : OrderBook) (place n : ℕ) (b' : OrderBook) : Type 0 where
-  pub off : Off b place n b'
-  pub same : Same b b'
-  pub fewer : b'.count ≤ b.count
-  pub one : b.count ≤ b'.count + 1
+-- n lots come off them
+module _ {w : List Order} {count i j later earlier : ℕ} (h : Taking w count i j later earlier) where
+  pub takes_later : Takeable w count later
+  takes_later = takeable w count later (omega (arith, h.one, h.other, h.last)) h.room h.within
 
-module _ {b₀ b : OrderBook} {i j n earlier place : ℕ} (h : Taking b₀ b i j n earlier place) where
-  -- the order there has so many lots
-  module _ {waits : ℕ} (read : waits ≡ (order_at b.orders place).lots) where
-    pub taken_top : waits ≤ max_lots
-    taken_top =
-        let inside : place < length (waiting_in b) = omega (arith, h.inside, first_length b.count b.orders) in
-        let top = all_at Within no_order (waiting_in b) place h.within inside in
-        rw (read, sym (first_at b.count b.orders place h.inside)) top
+  both : (n : ℕ) → take_off (take_off (first_orders count w) later n) earlier n ≡ take_both (first_orders count w) i j n
+  unfolding take_both
+  both n = go (i <? j) refl
+    where
+      go : (x : Bool) → (i <? j) ≡ x
+          → take_off (take_off (first_orders count w) later n) earlier n
+          ≡ cond x (take_off (take_off (first_orders count w) j n) i n) (take_off (take_off (first_orders count w) i n) j n)
+      go true e =
+          let l = ltb-true i j e in
+          let a : earlier ≡ i = omega (arith, h.first) in
+          let c : later ≡ j = omega (arith, h.last) in
+          rw (a, c)
+      go false e =
+          let l = ltb-false i j e in
+          let a : earlier ≡ j = omega (arith, h.first) in
+          let c : later ≡ i = omega (arith, h.last) in
+          rw (a, c)
 
-    pub taken_filled : waits ≤ n → {w : List Order} {k : ℕ}
-        → Moved b.orders w place (b.count - 1) k → b.count - 1 ≤ k → (b' : OrderBook) → b'.orders ≡ w
-        → b'.count ≡ b.count - 1 → Same b b' → Taken b place n b'
-    taken_filled filled m last b' orders count same = record {
-      off = off_filled b place n h.inside h.room read filled m last b' orders count same.codes same.turnover;
-      same = same;
-      fewer = omega arith;
-      one = omega arith;
-    }
+  -- they are off the later one
+  module _ {n : ℕ} {w' : List Order} {count' : ℕ} (t : TakenOff w count later n w' count') where
+    pub takes_earlier : Takeable w' count' earlier
+    takes_earlier =
+        let all = first_orders count w in
+        let long = first_length count w in
+        let now : length (take_off all later n) ≡ count' = ap length (sym t.waiting) ∙ first_length count' w' in
+        let before : earlier < later = omega (arith, h.apart, h.first, h.last) in
+        let inside : later < length all = omega (arith, h.one, h.other, h.last) in
+        takeable w' count' earlier
+        (omega (arith, length_take_off all earlier later n before inside))
+        (omega (arith, t.long, h.room, length_take_off_le all later n inside))
+        (subst (All Within) (sym t.waiting) (all_take_off Within all later n (λ o top more. omega arith) h.within))
 
-    pub taken_less : n < waits → (o : Order) → o ≡ with_lots (order_at b.orders place) (waits - n) → (b' : OrderBook)
-        → b'.orders ≡ set b.orders place o → b'.count ≡ b.count → Same b b' → Taken b place n b'
-    taken_less more o less b' orders count same = record {
-      off = off_less b place n h.inside h.room read more o less b' orders count same.codes same.turnover;
-      same = same;
-      fewer = omega arith;
-      one = omega arith;
-    }
-
-  module _ {b' : OrderBook} (t : Taken b place n b') where
-    pub taken_long : length b'.orders ≡ length b₀.orders
-    taken_long = t.off.long ∙ h.long
-
-    pub taken_same : Same b₀ b'
-    taken_same = record {
-      codes = t.same.codes ∙ h.same.codes;
-      turnover = t.same.turnover ∙ h.same.turnover;
-      filled = t.same.filled ∙ h.same.filled;
-      left = t.same.left ∙ h.same.left;
-    }
-
-    pub taking_next : (place ≡ earlier → ⊥) → Taking b₀ b' i j n earlier earlier
-    taking_next more =
-        let before : earlier < place = omega (arith, h.low) in
-        let one : remaining (waiting_in b) earlier place n ≡ take_off (take_off (waiting_in b) place n) earlier n =
-        rw (lt-ltb earlier place before) in
-        let last : remaining (waiting_in b') earlier earlier n ≡ take_off (waiting_in b') earlier n =
-        rw (le-ltb earlier earlier (omega arith)) in
-        record {
-          low = omega arith;
-          inside = omega (arith, h.inside, t.one);
-          room = omega (arith, t.fewer, h.room, t.off.long);
-          long = taken_long;
-          same = taken_same;
-          within = subst (All Within) (sym t.off.waiting)
-              (all_take_off Within (waiting_in b) place n (λ o top more. omega arith) h.within);
-          rest = last ∙ ap (λ (w : List Order). take_off w earlier n) t.off.waiting ∙ sym one ∙ h.rest;
-        }
-
-    pub taking_ends : place ≡ earlier → waiting_in b' ≡ take_both (waiting_in b₀) i j n
-    taking_ends over =
-        let last : remaining (waiting_in b) earlier place n ≡ take_off (waiting_in b) place n =
-        rw (le-ltb earlier place (omega arith)) in
-        t.off.waiting ∙ sym last ∙ h.rest
+    -- and off both
+    pub taken_both : {w'' : List Order} {count'' : ℕ} → TakenOff w' count' earlier n w'' count''
+        → first_orders count'' w'' ≡ take_both (first_orders count w) i j n
+    taken_both u = u.waiting ∙ ap (λ (l : List Order). take_off l earlier n) t.waiting ∙ both n

@@ -7,9 +7,10 @@ ghost use Rattle.script.specs.Rooms.{room};
 use script::{resume, start};
 use std::io::Write;
 use std::rt::Clock;
-use streams::write_first;
+use streams::write_whole;
 
 // The buffer takes part after part; each is written before the next. After a part that did not go through nothing is written.
+// `console` has the same loop for a day: a trait for both, with what its ending needs as a law, would be longer than the loop.
 fn print_parts<R: Clock + Eprint, W: Write>(
     rt: &R,
     file: &mut W,
@@ -20,13 +21,13 @@ fn print_parts<R: Clock + Eprint, W: Write>(
 {
     let mut p = start(text, out);
     while !p.over {
-        if !write_first(rt, file, out, p.filled) {
+        if !write_whole(rt, file, &out[..p.filled]) {
             return false;
         }
         p.filled = 0;
         p = resume(text, p, out);
     }
-    write_first(rt, file, out, p.filled)
+    write_whole(rt, file, &out[..p.filled])
 }
 
 // Whether all of the script went through.

@@ -1,5 +1,5 @@
 -- A number in decimal: how many digits it has, and that it is as many of its last digits.
-use Prim.Native.Nat.{ℕ, zero, suc, ◌+◌, ◌/◌, ◌%◌, ◌^◌, ◌≤◌, ◌<◌}
+use Prim.Native.Nat.{ℕ, zero, suc, max, ◌+◌, ◌*◌, ◌/◌, ◌%◌, ◌^◌, ◌≤◌, ◌<◌}
 use native.Mathlib.Nat.{div-lt_iff_lt-mul, le-div_iff_mul-le, mod-eq_of_lt, pow-le-pow_right, pow-suc}
 use native.Mathlib.Omega.{arith}
 use mathlib.Core.Path.{◌≡◌, refl, ap, ◌∙◌, sym}
@@ -93,6 +93,16 @@ decimal_narrow (suc d) n l h = narrow 20 d n h
 pub decimal_wide : (d n : ℕ) → d < 20 → 10 ^ d ≤ n → d + 1 ≤ length (decimal n)
 unfolding decimal
 decimal_wide d n l h = omega (arith, wide 20 d n l h)
+
+-- one digit more than the logarithm says, which is that of 1 for 0
+pub decimal_log : (n k : ℕ) → 10 ^ k ≤ max n 1 → max n 1 < 10 * 10 ^ k → k < 20 → k + 1 ≡ length (decimal n)
+decimal_log n zero low high bound =
+    omega (arith, decimal_narrow 1 n (omega arith) (omega arith), decimal_some n)
+decimal_log n (suc k) low high bound =
+    let some : 1 ≤ 10 ^ k = pow-le-pow_right {n = 10} (omega arith) {i = 0} {j = k} (omega arith) in
+    let whole : 10 ^ suc k ≤ n = rw pow-suc (let low' = rw pow-suc at low in omega arith) in
+    let narrow : n < 10 ^ suc (suc k) = rw pow-suc (omega arith) in
+    omega (arith, decimal_narrow (suc (suc k)) n (omega arith) narrow, decimal_wide (suc k) n bound whole)
 
 pub one_digit : (n : ℕ) → n < 10 → decimal n ≡ (48 + n) ∷ []
 unfolding decimal decimal_by

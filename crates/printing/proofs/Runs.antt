@@ -1,13 +1,14 @@
 -- Lines of trades, columns and participants, one block of bytes after another: what a loop that puts them keeps, and
 -- their length.
-use Prim.Native.Nat.{ℕ, zero, suc, ◌+◌, ◌*◌, ◌≤◌, ◌<◌}
+use Prim.Native.Nat.{ℕ, zero, suc, ◌+◌, ◌-◌, ◌*◌, ◌≤◌, ◌<◌}
 use native.Mathlib.Nat.{add-zero, le_trans, mul-le-mul, mul-le-mul_right, suc-mul, zero-add}
 use native.Mathlib.Numerals.{add-one}
 use native.Mathlib.Omega.{arith}
-use mathlib.Core.Path.{◌≡◌, refl, ap}
+use mathlib.Core.Path.{◌≡◌, refl, ap, sym, ◌∙◌}
 use mathlib.Core.List.{List, [], ◌∷◌, ◌++◌, append_assoc, append-nil}
-use lib.ListN.{drop, length, take, length-append, length-take}
-use lib.Seq.{drop-drop}
+use lib.ListN.{drop, length, take, length-append, length-drop, length-take}
+use lib.Seq.{drop-append_seam, drop-drop, length-take-le, take-append_seam, take-take}
+use Rattle.std.proofs.lemmas.List.{drop-take}
 use Rattle.market.specs.Limits.{numbers_per_trade}
 use Rattle.market.specs.Day.{cell, position}
 use Rattle.market.specs.TradeList.{Trade, all_numbers, numbers, written}
@@ -84,6 +85,27 @@ trade_run l = record {
       let part = drop (c * numbers_per_trade) l in
       omega (arith, line_length letter_t (take numbers_per_trade part), length-take numbers_per_trade part);
 }
+
+-- the next trade of the first n, and those behind it
+pub trade_next : (l : List ℕ) (n i : ℕ) (trade rest : List ℕ) → n * numbers_per_trade ≤ length l
+    → drop (i * numbers_per_trade) (take (n * numbers_per_trade) l) ≡ trade ++ rest → length trade ≡ numbers_per_trade
+    → (i < n) × (trade ≡ take numbers_per_trade (drop (i * numbers_per_trade) l))
+    × (rest ≡ drop ((i + 1) * numbers_per_trade) (take (n * numbers_per_trade) l))
+trade_next l n i trade rest h e k =
+    let first = i * numbers_per_trade in
+    let left = n * numbers_per_trade - first in
+    let size = ap length e in
+    let inside : i < n =
+    omega (arith, size, length-append trade rest, length-drop first (take (n * numbers_per_trade) l), length-take-le (n * numbers_per_trade) l h) in
+    let all : first + left ≡ n * numbers_per_trade = omega arith in
+    let from : take left (drop first l) ≡ trade ++ rest = sym (drop-take first left l) ∙ ap (λ (m : ℕ). drop first (take m l)) all ∙ e in
+    let next : first + numbers_per_trade ≡ (i + 1) * numbers_per_trade = omega arith in (
+      inside,
+      sym (take-append_seam trade rest) ∙ ap (λ (m : ℕ). take m (trade ++ rest)) k ∙ ap (take numbers_per_trade) (sym from)
+          ∙ take-take numbers_per_trade left (drop first l) (omega arith),
+      sym (drop-append_seam trade rest) ∙ ap (λ (m : ℕ). drop m (trade ++ rest)) k ∙ ap (drop numbers_per_trade) (sym e)
+          ∙ drop-drop numbers_per_trade first (take (n * numbers_per_trade) l) ∙ ap (λ (m : ℕ). drop m (take (n * numbers_per_trade) l)) next,
+    )
 
 -- the lines of a participant
 pub column_run : (letter : ℕ) (l : List ℕ) (p : ℕ)

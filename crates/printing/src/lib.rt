@@ -24,8 +24,11 @@ const LETTER_M: u8 = b'M';
 
 const LETTER_Q: u8 = b'Q';
 
+// `matching` names the same number; this crate doesn't stand on it.
 const NUMBERS_PER_TRADE: usize = 8;
 
+// `out` and `at` are two parameters in this file: a struct of both was tried, but what makes it of a lent buffer can't say what
+// the buffer then holds.
 fn put_byte(out: &mut [u8], at: usize, byte: u8) -> usize
     requires { at < length out.old }
     ensures { Puts out.old at (byte ∷ []) out.new result }
@@ -38,17 +41,7 @@ fn put_byte(out: &mut [u8], at: usize, byte: u8) -> usize
 fn width(n: u64) -> usize
     ensures { result ≡ length (decimal n) }
 {
-    let mut digits: usize = 1;
-    let mut power: u64 = 10;
-    while power <= n {
-        digits += 1;
-        // The next power has more than 64 bits.
-        if 19 < digits {
-            return digits;
-        }
-        power = power * 10;
-    }
-    digits
+    n.max(1).ilog10() as usize + 1
 }
 
 // The digits, the last one first.
@@ -58,11 +51,9 @@ fn put_digits(out: &mut [u8], at: usize, n: u64) -> usize
 {
     let end = at + width(n);
     let mut rest = n;
-    let mut i = end;
-    while at < i {
-        i -= 1;
+    for i in (at..end).rev() {
         out[i] = b'0' + (rest % 10) as u8;
-        rest = rest / 10;
+        rest /= 10;
     }
     end
 }
@@ -83,12 +74,8 @@ pub fn put_bytes(out: &mut [u8], at: usize, bytes: &[u8]) -> usize
     requires { at + length bytes.now ≤ length out.old }
     ensures { Puts out.old at bytes.now out.new result }
 {
-    let mut end = at;
-    let mut i: usize = 0;
-    while i < bytes.len() {
-        end = put_byte(out, end, bytes[i]);
-        i += 1;
-    }
+    let end = at + bytes.len();
+    out[at..end].copy_from_slice(bytes);
     end
 }
 
@@ -98,11 +85,9 @@ pub fn put_fields(out: &mut [u8], at: usize, numbers: &[u64]) -> usize
     ensures { Puts out.old at (number_fields numbers.now) out.new result }
 {
     let mut end = at;
-    let mut i: usize = 0;
-    while i < numbers.len() {
+    for number in numbers {
         let field = put_byte(out, end, COMMA);
-        end = put_number(out, field, numbers[i]);
-        i += 1;
+        end = put_number(out, field, *number);
     }
     end
 }
@@ -150,31 +135,11 @@ pub fn put_trades(out: &mut [u8], at: usize, trades: &[u64], count: u64) -> usiz
     ensures { Puts out.old at (flat_lines count trades.now) out.new result }
 {
     let mut end = at;
-    let mut i: u64 = 0;
-    while i < count {
-        let first = i as usize * NUMBERS_PER_TRADE;
-        let behind = first + NUMBERS_PER_TRADE;
-        end = put_line(out, end, LETTER_T, &trades[first..behind]);
-        i += 1;
+    let made = &trades[..count as usize * NUMBERS_PER_TRADE];
+    for trade in made.chunks_exact(NUMBERS_PER_TRADE) {
+        end = put_line(out, end, LETTER_T, trade);
     }
     end
-}
-
-fn put_position(
-    out: &mut [u8],
-    at: usize,
-    letter: u8,
-    participant: u64,
-    column: u64,
-    free: u64,
-    blocked: u64,
-) -> usize
-    requires { at + line_room 4 ≤ length out.old }
-    ensures { Puts out.old at
-        (position_line letter participant column (record { free = free; blocked = blocked })) out.new result }
-{
-    let numbers = [participant, column, free, blocked];
-    put_line(out, at, letter, &numbers)
 }
 
 // The lines of a participant.
@@ -191,13 +156,10 @@ fn put_columns(
     ensures { Puts out.old at (column_lines letter positions.now participant columns 0) out.new result }
 {
     let mut end = at;
-    let mut column: u64 = 0;
-    while column < columns {
+    for column in 0..columns {
         let first = 2 * cell_of(participant, column);
-        let free = positions[first];
-        let blocked = positions[first + 1];
-        end = put_position(out, end, letter, participant, column, free, blocked);
-        column += 1;
+        let numbers = [participant, column, positions[first], positions[first + 1]];
+        end = put_line(out, end, letter, &numbers);
     }
     end
 }
@@ -215,10 +177,8 @@ fn put_participants(
     ensures { Puts out.old at (participant_lines letter positions.now columns participants 0) out.new result }
 {
     let mut end = at;
-    let mut participant: u64 = 0;
-    while participant < participants {
+    for participant in 0..participants {
         end = put_columns(out, end, letter, participant, columns, positions);
-        participant += 1;
     }
     end
 }

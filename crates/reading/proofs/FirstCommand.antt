@@ -1,63 +1,66 @@
 -- The first command of a text from a place on, by its first line.
-use Prim.Native.Nat.{ℕ, ◌≤◌, ◌<◌}
+use Prim.Native.Nat.{ℕ, ◌<◌, min}
 use native.Mathlib.Omega.{arith}
 use mathlib.Core.Path.{◌≡◌, refl}
 use mathlib.Core.List.{List}
+use mathlib.Core.Bool.{Bool, true, false}
+use lib.Dec.{ltb}
+use borrow.Author.Tests.{ltb-false, ltb-true}
 use lib.ListN.{drop, drop_of_length-le, length}
 use lib.Seq.{drop-length}
-use types.Run.{miss}
-use Rattle.market.specs.declared.Call.{Call}
 use Rattle.market.specs.declared.Call.TheVariants as call
 use Rattle.lines.specs.declared.Line.{Line}
 use Rattle.lines.specs.declared.Line.TheVariants as line
 use Rattle.reading.specs.declared.Reading.{Reading}
-use Rattle.reading.specs.Commands.{Reads, ReadsLine, Yields, group_of, no_group, single, yield, yield_by}
-use Rattle.reading.proofs.Tags.{OtherCall, OtherLine, call_tag, group_tag, other_calls, other_lines}
+use Rattle.reading.specs.Commands.{Reads, ReadsLine, Yields, single, yield, yield_by}
+use Rattle.reading.proofs.Groups.{one_line, single_yields}
 
-other_call : (c : Call) → OtherCall group_tag c → group_of c ≡ no_group
-other_call (call.Reserve m) h = refl
-other_call (call.Order p m k) h = refl
-other_call (call.Cancel p code) h = refl
-other_call (call.Group p n) h = absurd (miss (other_calls group_tag) group_tag tt h)
-other_call (call.Start z) h = refl
-other_call (call.ClosingOrder p side s lots) h = refl
-other_call (call.End z) h = refl
+-- a line that is no group's takes no other lines
+no_group_lem : (says : Line) (t : List ℕ) → ((p n : ℕ) → says ≡ line.Call (call.Group p n) → ⊥)
+    → yield_by says t ≡ single says t
+no_group_lem (line.Call (call.Reserve m)) t h = refl
+no_group_lem (line.Call (call.Order p m k)) t h = refl
+no_group_lem (line.Call (call.Cancel p code)) t h = refl
+no_group_lem (line.Call (call.Group p n)) t h = absurd (h p n refl)
+no_group_lem (line.Call (call.Start z)) t h = refl
+no_group_lem (line.Call (call.ClosingOrder p side s lots)) t h = refl
+no_group_lem (line.Call (call.End z)) t h = refl
+no_group_lem (line.Heading a b c) t h = refl
+no_group_lem (line.Security a b c) t h = refl
+no_group_lem (line.Member m) t h = refl
+no_group_lem line.Malformed t h = refl
 
--- a line that is no group's takes no other lines; `held` is what it says where the code's ways meet
-pub no_group_lem : (says held : Line) (c : Call) (t : List ℕ) → says ≡ line.Call c → held ≡ line.Call c → OtherCall group_tag c
-    → yield_by says t ≡ single held t
-no_group_lem says held c t e k h = rw (e, k, other_call c h)
-
-pub no_call : (says held : Line) (t : List ℕ) → held ≡ says → OtherLine call_tag says → yield_by says t ≡ single held t
-no_call (line.Call c) held t e h = absurd (miss (other_lines call_tag) call_tag tt h)
-no_call (line.Heading a b c) held t e h = rw e
-no_call (line.Security a b c) held t e h = rw e
-no_call (line.Member m) held t e h = rw e
-no_call line.Malformed held t e h = rw e
-
--- reading starts at `from`: at `at`, or at the text's end where `at` is not inside
-pub record Starts (text : List ℕ) (at from : ℕ) : Type 0 where
+-- reading starts at `at`, or at the text's end where `at` is not inside
+record Starts (text : List ℕ) (at from : ℕ) : Type 0 where
   pub rest : drop from text ≡ drop at text
-  pub inside : from ≤ length text
   pub here : at < length text → from ≡ at
 
-pub starts_here : (text : List ℕ) (at from : ℕ) → at < length text → from ≡ at → Starts text at from
-starts_here text at from h e = record { rest = rw e; inside = omega arith; here = λ some. e }
+starts : (text : List ℕ) (at : ℕ) → Starts text at (min at (length text))
+starts text at = go (ltb at (length text)) refl
+  where
+    go : (z : Bool) → ltb at (length text) ≡ z → Starts text at (min at (length text))
+    go true e =
+        let some = ltb-true at (length text) e in
+        let same : min at (length text) ≡ at = omega arith in
+        record { rest = rw same; here = λ _. same }
+    go false e =
+        let past = ltb-false at (length text) e in
+        let same : min at (length text) ≡ length text = omega arith in
+        record {
+          rest = rw (same, drop-length, drop_of_length-le text past);
+          here = λ some. absurd (omega arith);
+        }
 
-pub starts_past : (text : List ℕ) (at from : ℕ) → length text ≤ at → from ≡ length text → Starts text at from
-starts_past text at from h e = record {
-  rest = rw (e, drop-length, drop_of_length-le text h);
-  inside = omega arith;
-  here = λ some. absurd (omega arith);
-}
+module _ (text : List ℕ) (at from : ℕ) (says : Line) (next : ℕ) (is : from ≡ min at (length text))
+    (read : ReadsLine text from says next) where
+  start : Starts text at from
+  start = rw is (starts text at)
 
-module _ (text : List ℕ) (at from : ℕ) (start : Starts text at from)
-    (says : Line) (next : ℕ) (read : ReadsLine text from says next) where
   first : yield (drop at text) ≡ yield_by says (drop next text)
   unfolding yield
   first = rw (read.rest, read.said, start.rest)
 
-  pub reads : (r : Reading) → Yields text next (yield_by says (drop next text)) r → Reads text at r
+  reads : (r : Reading) → Yields text next (yield_by says (drop next text)) r → Reads text at r
   reads r y =
       let z : Yields text next (yield (drop at text)) r = rw first y in
       record {
@@ -69,3 +72,12 @@ module _ (text : List ℕ) (at from : ℕ) (start : Starts text at from)
             let same = start.here some in
             (omega (arith, read.forward (omega arith)), z.inside);
       }
+
+  pub reads_group : (p n : ℕ) (r : Reading) → says ≡ line.Call (call.Group p n)
+      → Yields text next (yield_by (line.Call (call.Group p n)) (drop next text)) r → Reads text at r
+  reads_group p n r e y = reads r (rw e y)
+
+  pub reads_single : (r : Reading) → ((p n : ℕ) → says ≡ line.Call (call.Group p n) → ⊥) → r ≡ one_line says next
+      → Reads text at r
+  reads_single r other e =
+      reads r (single_yields text next read.inside says _ (no_group_lem says (drop next text) other) r e)

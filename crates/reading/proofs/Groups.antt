@@ -4,7 +4,7 @@ use native.Mathlib.Numerals.{add-one}
 use native.Mathlib.Omega.{arith}
 use mathlib.Core.Path.{◌≡◌, refl}
 use mathlib.Core.List.{List}
-use mathlib.Core.Bool.{true, false}
+use Rattle.std.specs.Prelude.{Some, None}
 use lib.ListN.{drop, length}
 use borrow.Author.Tests.{le-leb, lt-leb}
 use Rattle.market.specs.declared.Call.TheVariants as call
@@ -50,17 +50,17 @@ module _ (text : List ℕ) (next : ℕ) (inside : next ≤ length text) where
         let low : min_members ≤ n = omega arith in
         single_yields first group (rw (le-leb min_members n, lt-leb n max_members))
 
-    module _ (low : min_members ≤ n) (high : n ≤ max_members) (m : code.Members) (reads : ReadsMembers text next n m) where
-      pub group_missing : m.good ≡ false → (r : Reading) → r ≡ one_line line.Malformed next
+    module _ (low : min_members ≤ n) (high : n ≤ max_members) where
+      pub group_missing : ReadsMembers text next n None → (r : Reading) → r ≡ one_line line.Malformed next
           → Yields text next group r
       unfolding ◌and◌
-      group_missing h =
-          single_yields line.Malformed group (rw (le-leb min_members n, le-leb n max_members, ← reads.members, h))
+      group_missing reads =
+          single_yields line.Malformed group (rw (le-leb min_members n, le-leb n max_members, ← reads.members))
 
-      pub group_taken : m.good ≡ true
+      pub group_taken : (m : code.Members) → ReadsMembers text next n (Some m)
           → Yields text next group (record { says = first; members = m.list; lines = n + 1; next = m.next })
       unfolding ◌and◌
-      group_taken h = rw (le-leb min_members n, le-leb n max_members, ← reads.members, h) (record {
+      group_taken m reads = rw (le-leb min_members n, le-leb n max_members, ← reads.members) (record {
         says = refl;
         members = refl;
         lines = add-one n;
@@ -68,3 +68,6 @@ module _ (text : List ℕ) (next : ℕ) (inside : next ≤ length text) where
         inside = reads.inside;
         forward = reads.forward;
       })
+
+-- what `reading::group_at` goes by
+pub ruleset group_lines = (group_below, group_above, group_missing, group_taken)

@@ -5,9 +5,8 @@ use native.Mathlib.Numerals.{add-one}
 use native.Mathlib.Omega.{arith}
 use mathlib.Core.Path.{◌≡◌, refl, ◌∙◌, sym}
 use mathlib.Core.List.{List, [], ◌∷◌}
-use mathlib.Core.Bool.{true, false}
+use Rattle.std.specs.Prelude.{Some, None}
 use lib.ListN.{drop, drop_of_length-le, length, length-drop, set}
-use types.Run.{miss}
 use Rattle.market.specs.declared.Ticket.{Ticket}
 use Rattle.lines.specs.declared.Line.{Line}
 use Rattle.lines.specs.declared.Line.TheVariants as line
@@ -15,7 +14,6 @@ use Rattle.lines.specs.Line.{line_says}
 use Rattle.reading.specs.Commands.{Members, ReadsLine, ReadsMembers, after_line, first_line, member_by}
 use Rattle.market.specs.Calls.{no_tickets}
 use Rattle.reading.specs.Commands.{members_from, missing}
-use Rattle.reading.proofs.Tags.{OtherLine, member_tag, other_lines}
 
 -- before member i: the members from here on come to those from the start on
 pub record Passed (text : List ℕ) (from n : ℕ) (list : List Ticket) (at i : ℕ) : Type 0 where
@@ -25,11 +23,12 @@ pub record Passed (text : List ℕ) (from n : ℕ) (list : List Ticket) (at i : 
   pub inside : at ≤ length text
 
 -- a line that is no member's
-no_member : (says : Line) (next : Ticket → Members) → OtherLine member_tag says → member_by says next ≡ missing
+no_member : (says : Line) (next : Ticket → Members) → ((m : Ticket) → says ≡ line.Member m → ⊥)
+    → member_by says next ≡ missing
 no_member (line.Call c) next h = refl
 no_member (line.Heading a b c) next h = refl
 no_member (line.Security a b c) next h = refl
-no_member (line.Member m) next h = absurd (miss (other_lines member_tag) member_tag tt h)
+no_member (line.Member m) next h = absurd (h m refl)
 no_member line.Malformed next h = refl
 
 members_past : (n i : ℕ) (ms : List Ticket) → members_from (suc n) i ms [] ≡ missing
@@ -53,7 +52,7 @@ members_start text from n h = record {
 
 module _ (text : List ℕ) (from n : ℕ) (list : List Ticket) (at i : ℕ) (p : Passed text from n list at i) where
   -- the places are full
-  pub members_end : n ≤ i → ReadsMembers text from n (record { good = true; list = list; next = at })
+  pub members_end : n ≤ i → ReadsMembers text from n (Some (record { list = list; next = at }))
   unfolding members_from
   members_end h =
       let none : n - i ≡ 0 = omega (arith, p.most) in
@@ -61,14 +60,14 @@ module _ (text : List ℕ) (from n : ℕ) (list : List Ticket) (at i : ℕ) (p :
 
   -- a line is missing, or it is no member's
   abbrev Lacks : Type 0
-  Lacks = ReadsMembers text from n (record { good = false; list = list; next = at })
+  Lacks = ReadsMembers text from n None
 
   module _ (more : i < n) where
     left : n - i ≡ suc (n - suc i)
     left = omega arith
 
     lacks : members_from (n - i) i list (drop at text) ≡ missing → Lacks
-    lacks e = record { members = sym e ∙ p.members; inside = p.inside; forward = p.forward }
+    lacks e = record { members = sym e ∙ p.members; inside = tt; forward = tt }
 
     pub past_end : length text ≤ at → Lacks
     past_end h = lacks (rw (left, drop_of_length-le text h) (members_past (n - suc i) i list))
@@ -79,7 +78,7 @@ module _ (text : List ℕ) (from n : ℕ) (list : List Ticket) (at i : ℕ) (p :
       turn = simp (left, read.said, read.rest)
           (members_line (n - suc i) i list (drop at text) (simp length-drop (omega arith)))
 
-      pub other_line : OtherLine member_tag says → Lacks
+      pub other_line : ((m : Ticket) → says ≡ line.Member m → ⊥) → Lacks
       other_line h = lacks (turn ∙ no_member says _ h)
 
       pub member_line : (m : Ticket) → says ≡ line.Member m → Passed text from n (set list i m) next (i + 1)
@@ -89,3 +88,6 @@ module _ (text : List ℕ) (from n : ℕ) (list : List Ticket) (at i : ℕ) (p :
         forward = omega (arith, p.forward, read.forward here);
         inside = read.inside;
       }
+
+-- what `reading::members_at` goes by
+pub ruleset member_lines = (members_start, members_end, past_end, other_line, member_line)

@@ -1,5 +1,6 @@
 -- What the reader yields: one command after another.
-use Rattle.std.specs.Prelude.{ℕ, zero, suc, ◌<◌, ◌≤◌, ◌≡◌, List, [], ◌∷◌, Bool, true, false, drop, length, set}
+use Rattle.std.specs.Prelude.{ℕ, zero, suc, ◌<◌, ◌≤◌, ◌≡◌, List, [], ◌∷◌, Bool, true, false, drop, length, set, Some, None, IfSome}
+use Rattle.std.specs.declared.option.Option.{Option}
 use Rattle.market.specs.declared.Call.{Call}
 use Rattle.market.specs.declared.Call.TheVariants as call
 use Rattle.market.specs.declared.Ticket.{Ticket}
@@ -60,9 +61,9 @@ members_from (suc n) i ms (x ∷ t) =
     (λ m. members_from n (suc i) (set ms i m) (after_line (x ∷ t)))
 
 -- members as the code holds them
-abbrev pub members_in : Bool → List Ticket → List ℕ → Members
-members_in false ms t = missing
-members_in true ms t = taken ms t
+abbrev pub members_in : List ℕ → Option code.Members → Members
+members_in text None = missing
+members_in text (Some r) = taken r.list (drop r.next text)
 
 -- a command of one line
 abbrev pub single : Line → List ℕ → Yield
@@ -121,11 +122,11 @@ pub record ReadsLine (text : List ℕ) (at : ℕ) (says : Line) (next : ℕ) : T
   pub inside : next ≤ length text
   pub forward : at < length text → at < next
 
--- n members' lines from `from` on
-pub record ReadsMembers (text : List ℕ) (from n : ℕ) (r : code.Members) : Type 0 where
-  pub members : members_in r.good r.list (drop r.next text) ≡ members_from n 0 no_tickets (drop from text)
-  pub inside : r.next ≤ length text
-  pub forward : from ≤ r.next
+-- n members' lines from `from` on: where they are there, the text goes on inside it, not before `from`
+pub record ReadsMembers (text : List ℕ) (from n : ℕ) (r : Option code.Members) : Type 0 where
+  pub members : members_in text r ≡ members_from n 0 no_tickets (drop from text)
+  pub inside : IfSome r (λ m. m.next ≤ length text)
+  pub forward : IfSome r (λ m. from ≤ m.next)
 
 -- r is a command with what it took, and the text goes on inside it, not before `from`
 pub record Yields (text : List ℕ) (from : ℕ) (y : Yield) (r : Reading) : Type 0 where

@@ -13,6 +13,13 @@ use market::{Call, MAX_MEMBERS, MIN_MEMBERS, Side, Ticket};
 
 const LINE_END: u8 = b'\n';
 
+const NO_MEMBERS: [Ticket; 8] = [Ticket {
+    side: Side::Buy,
+    security: 0,
+    price: 0,
+    lots: 0,
+}; 8];
+
 // What a first line says, the members of a group, how many lines were taken, and where the text goes on after them.
 #[derive(Clone, Copy)]
 pub struct Reading {
@@ -29,10 +36,9 @@ pub struct LineAt {
     pub next: usize,
 }
 
-// A group's members in their places, where all their lines are there.
+// A group's members in their places, and where the text goes on after their lines.
 #[derive(Clone, Copy)]
 pub struct Members {
-    pub good: bool,
     pub list: [Ticket; 8],
     pub next: usize,
 }
@@ -47,85 +53,58 @@ fn line_at(text: &[u8], at: usize) -> LineAt
     LineAt { says, next }
 }
 
-// The lines of n members.
-fn members_at(text: &[u8], from: usize, n: u64) -> Members
+// The lines of n members, where all of them are there.
+#[tactic(auto, using(crate::proofs::MemberLines::member_lines))]
+fn members_at(text: &[u8], from: usize, n: u64) -> Option<Members>
     requires from_in_bounds { from ≤ length text.now }
     requires n_le_max_members { n ≤ max_members }
     ensures { ReadsMembers text.now from n result }
 {
-    let blank = Ticket {
-        side: Side::Buy,
-        security: 0,
-        price: 0,
-        lots: 0,
-    };
-    let mut list = [blank; 8];
-    let mut at = from;
-    let mut i: usize = 0;
-    while (i as u64) < n {
-        if text.len() <= at {
-            return Members {
-                good: false,
-                list,
-                next: at,
-            };
+    let mut list = NO_MEMBERS;
+    let mut next = from;
+    for i in 0..n {
+        if text.len() <= next {
+            return None;
         }
-        let line = line_at(text, at);
-        let says = line.says;
-        let Line::Member(member) = says else {
-            return Members {
-                good: false,
-                list,
-                next: at,
-            };
+        let line = line_at(text, next);
+        let Line::Member(member) = line.says else {
+            return None;
         };
-        list[i] = member;
-        i += 1;
-        at = line.next;
+        list[i as usize] = member;
+        next = line.next;
     }
-    Members {
-        good: true,
-        list,
-        next: at,
-    }
+    Some(Members { list, next })
 }
 
 // A command of one line.
 fn single(says: Line, next: usize) -> Reading
     ensures { result ≡ record { says = says; members = no_tickets; lines = 1; next = next } }
 {
-    let blank = Ticket {
-        side: Side::Buy,
-        security: 0,
-        price: 0,
-        lots: 0,
-    };
     Reading {
         says,
-        members: [blank; 8],
+        members: NO_MEMBERS,
         lines: 1,
         next,
     }
 }
 
 // A group whose first line ends at `next`, with its members' lines.
+#[tactic(auto, using(crate::proofs::Groups::group_lines))]
 fn group_at(text: &[u8], next: usize, participant: u64, n: u64) -> Reading
     requires { next ≤ length text.now }
     ensures { Yields text.now next (yield_by (line.Call (call.Group participant n)) (drop next text.now)) result }
 {
-    if n < MIN_MEMBERS {
-        return single(Line::Call(Call::Group(participant, n)), next);
+    let says = Line::Call(Call::Group(participant, n));
+    if n < MIN_MEMBERS || MAX_MEMBERS < n {
+        return single(says, next);
     }
-    if MAX_MEMBERS < n {
-        return single(Line::Call(Call::Group(participant, n)), next);
-    }
-    let members = members_at(text, next, n);
-    if !members.good {
+    let Some(members) = members_at(text, next, n) else {
         return single(Line::Malformed, next);
-    }
+    };
+    // By a local: from within the record the proof didn't close.
     let list = members.list;
     Reading {
-        says: Line::Call(Call::Group(participant, n)),
+        says,
         members: list,
         lines: n + 1,
         next: members.next,
@@ -136,15 +115,11 @@ fn group_at(text: &[u8], next: usize, participant: u64, n: u64) -> Reading
 fn reading_at(text: &[u8], at: usize) -> Reading
     ensures { Reads text.now at result }
 {
-    let from = if at < text.len() { at } else { text.len() };
-    let line = line_at(text, from);
-    let says = line.says;
-    if let Line::Call(call) = says {
-        if let Call::Group(participant, n) = call {
-            return group_at(text, line.next, participant, n);
-        }
+    let line = line_at(text, at.min(text.len()));
+    if let Line::Call(Call::Group(participant, n)) = line.says {
+        return group_at(text, line.next, participant, n);
     }
-    single(says, line.next)
+    single(line.says, line.next)
 }
 
 // A line reader over a lent text, at a place of it.
@@ -172,10 +147,7 @@ impl<'a> Reader<'a> {
         ensures { Next self.entry result }
     {
         let reading = reading_at(self.text, self.at);
-        let reader = Reader {
-            text: self.text,
-            at: reading.next,
-        };
+        let reader = Reader::new(self.text, reading.next);
         Yielded { reading, reader }
     }
 }
@@ -184,6 +156,5 @@ impl<'a> Reader<'a> {
 pub fn command_at(text: &[u8], at: usize) -> Reading
     ensures { Reads text.now at result }
 {
-    let yielded = Reader::new(text, at).next();
-    yielded.reading
+    Reader::new(text, at).next().reading
 }

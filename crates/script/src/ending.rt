@@ -4,10 +4,10 @@ ghost use Rattle.market.specs.Limits.{max_currencies, max_participants, max_secu
 ghost use Rattle.script.specs.Rooms.{Adds, Counts, account_room, codes_room, day_room, end_room, kind_room, phase_room, side_room, turnover_room, waits_room};
 
 use super::records::put_records;
-use amounts::{account_cell, from_u16};
+use amounts::account_cell;
 use market::{
-    Kind, MAX_CURRENCIES, MAX_PARTICIPANTS, MAX_SECURITIES, MAX_WAITING, Order, Phase, Side, State,
-    Turnover, lots_of, rules_of,
+    Floor, Kind, MAX_CURRENCIES, MAX_PARTICIPANTS, MAX_SECURITIES, MAX_WAITING, Order, Phase,
+    Rules, Side, State, Turnover, lots_of,
 };
 use printing::{put_bytes, put_fields, put_positions, put_worded};
 
@@ -31,18 +31,15 @@ fn put_turnover(out: &mut [u8], at: usize, security: u64, pieces: u64, value: u6
     put_worded(out, at, b"TURNOVER", &numbers)
 }
 
-// The first `securities` turnovers.
-fn put_turnovers(out: &mut [u8], at: usize, turnovers: [Turnover; 16], securities: u64) -> usize
-    requires securities_le_max_securities { securities ≤ max_securities }
+// One line each, as the three below that print a list: one loop for them would take a line's printing as a closure, with its room.
+fn put_turnovers(out: &mut [u8], at: usize, turnovers: &[Turnover]) -> usize
+    requires few { length turnovers.now ≤ max_securities }
     requires turnover_room_in_bounds { at + max_securities * turnover_room ≤ length out.old }
     ensures { Adds (max_securities * turnover_room) out.old at out.new result }
 {
     let mut end = at;
-    let mut i: u64 = 0;
-    while i < securities {
-        let turnover = turnovers[i as usize];
-        end = put_turnover(out, end, i, turnover.pieces, turnover.value);
-        i += 1;
+    for (i, turnover) in turnovers.iter().enumerate() {
+        end = put_turnover(out, end, i as u64, turnover.pieces, turnover.value);
     }
     end
 }
@@ -63,13 +60,10 @@ fn put_kind(out: &mut [u8], at: usize, kind: Kind) -> usize
     ensures { Adds kind_room out.old at out.new result }
 {
     match kind {
-        Kind::Kept(price) => {
-            let numbers = [price];
-            put_worded(out, at, b",K", &numbers)
-        }
+        Kind::Kept(price) => put_worded(out, at, b",K", &[price]),
         Kind::Closing => put_bytes(out, at, b",P,0\n"),
         Kind::Offer(rate, term, price) => {
-            let numbers = [price, from_u16(rate), from_u16(term)];
+            let numbers = [price, u64::from(rate), u64::from(term)];
             put_worded(out, at, b",OFFER", &numbers)
         }
     }
@@ -79,46 +73,33 @@ fn put_order(out: &mut [u8], at: usize, order: Order) -> usize
     requires { at + waits_room ≤ length out.old }
     ensures { Adds waits_room out.old at out.new result }
 {
-    let side = order.side;
-    let kind = order.kind;
-    let whose = [order.participant, order.code];
-    let what = [order.security, lots_of(order)];
     let a = put_bytes(out, at, b"WAITS");
-    let b = put_fields(out, a, &whose);
-    let c = put_side(out, b, side);
-    let d = put_fields(out, c, &what);
-    put_kind(out, d, kind)
+    let b = put_fields(out, a, &[order.participant, order.code]);
+    let c = put_side(out, b, order.side);
+    let d = put_fields(out, c, &[order.security, lots_of(order)]);
+    put_kind(out, d, order.kind)
 }
 
-// The first `count` orders.
-fn put_orders(out: &mut [u8], at: usize, orders: [Order; 128], count: usize) -> usize
-    requires count_le_max_waiting { count ≤ max_waiting }
+fn put_orders(out: &mut [u8], at: usize, orders: &[Order]) -> usize
+    requires few { length orders.now ≤ max_waiting }
     requires waits_room_in_bounds { at + max_waiting * waits_room ≤ length out.old }
     ensures { Adds (max_waiting * waits_room) out.old at out.new result }
 {
     let mut end = at;
-    let mut i: usize = 0;
-    while i < count {
-        end = put_order(out, end, orders[i]);
-        i += 1;
+    for order in orders {
+        end = put_order(out, end, *order);
     }
     end
 }
 
 // Are the counts of a state within their limits? Those of every sound one are.
-fn in_limits(participants: u64, currencies: u64, securities: u64, count: usize) -> bool
-    ensures { result ≡ true → Counts participants currencies securities count }
+fn in_limits(rules: &Rules, count: usize) -> bool
+    ensures { result ≡ true → Counts rules.now.participants rules.now.currencies rules.now.securities count }
 {
-    if MAX_PARTICIPANTS < participants {
-        return false;
-    }
-    if MAX_CURRENCIES < currencies {
-        return false;
-    }
-    if MAX_SECURITIES < securities {
-        return false;
-    }
-    count as u64 <= MAX_WAITING
+    rules.participants <= MAX_PARTICIPANTS
+        && rules.currencies <= MAX_CURRENCIES
+        && rules.securities <= MAX_SECURITIES
+        && count as u64 <= MAX_WAITING
 }
 
 // The market's account in one currency, and in the first `currencies`.
@@ -130,21 +111,19 @@ fn put_account(out: &mut [u8], at: usize, currency: u64, amount: u64) -> usize
     put_worded(out, at, b"MARKET", &numbers)
 }
 
-fn put_accounts(out: &mut [u8], at: usize, money: [u64; 544], currencies: u64) -> usize
+fn put_accounts(out: &mut [u8], at: usize, money: &[u64; 544], currencies: u64) -> usize
     requires currencies_le_max_currencies { currencies ≤ max_currencies }
     requires account_room_in_bounds { at + max_currencies * account_room ≤ length out.old }
     ensures { Adds (max_currencies * account_room) out.old at out.new result }
 {
     let mut end = at;
-    let mut i: u64 = 0;
-    while i < currencies {
-        end = put_account(out, end, i, money[2 * account_cell(i)]);
-        i += 1;
+    for currency in 0..currencies {
+        end = put_account(out, end, currency, money[2 * account_cell(currency)]);
     }
     end
 }
 
-// Codes given to a participant, and to each of the first `participants`.
+// Codes given to a participant, and to each one.
 fn put_count(out: &mut [u8], at: usize, participant: u64, codes: u64) -> usize
     requires { at + codes_room ≤ length out.old }
     ensures { Adds codes_room out.old at out.new result }
@@ -153,58 +132,49 @@ fn put_count(out: &mut [u8], at: usize, participant: u64, codes: u64) -> usize
     put_worded(out, at, b"CODES", &numbers)
 }
 
-fn put_codes(out: &mut [u8], at: usize, codes: [u64; 16], participants: u64) -> usize
-    requires participants_le_max_participants { participants ≤ max_participants }
+fn put_codes(out: &mut [u8], at: usize, codes: &[u64]) -> usize
+    requires few { length codes.now ≤ max_participants }
     requires codes_room_in_bounds { at + max_participants * codes_room ≤ length out.old }
     ensures { Adds (max_participants * codes_room) out.old at out.new result }
 {
     let mut end = at;
-    let mut i: u64 = 0;
-    while i < participants {
-        end = put_count(out, end, i, codes[i as usize]);
-        i += 1;
+    for (i, given) in codes.iter().enumerate() {
+        end = put_count(out, end, i as u64, *given);
     }
     end
 }
 
 // Positions, phase, turnovers, codes given and waiting orders.
-fn put_day(out: &mut [u8], at: usize, s: State) -> usize
-    requires counts { Counts s.participants s.currencies s.securities s.count }
+fn put_day(out: &mut [u8], at: usize, rules: &Rules, floor: &Floor) -> usize
+    requires counts { Counts rules.now.participants rules.now.currencies rules.now.securities floor.now.count }
     requires day_room_in_bounds { at + day_room ≤ length out.old }
     ensures { Adds day_room out.old at out.new result }
 {
-    let money = s.money;
-    let pieces = s.pieces;
-    let phase = s.phase;
-    let turnovers = s.turnover;
-    let codes = s.codes;
-    let orders = s.orders;
     let a = put_positions(
         out,
         at,
-        s.participants,
-        s.currencies,
-        s.securities,
-        &money,
-        &pieces,
+        rules.participants,
+        rules.currencies,
+        rules.securities,
+        &floor.money,
+        &floor.pieces,
     );
-    let b = put_phase(out, a, phase);
-    let c = put_turnovers(out, b, turnovers, s.securities);
-    let d = put_codes(out, c, codes, s.participants);
-    put_orders(out, d, orders, s.count)
+    let b = put_phase(out, a, floor.phase);
+    let c = put_turnovers(out, b, &floor.turnover[..rules.securities as usize]);
+    let d = put_codes(out, c, &floor.codes[..rules.participants as usize]);
+    put_orders(out, d, &floor.orders[..floor.count])
 }
 
-pub fn put_end(out: &mut [u8], at: usize, s: State) -> usize
+pub fn put_end(out: &mut [u8], at: usize, s: &State) -> usize
     requires { at + end_room ≤ length out.old }
     ensures { Adds end_room out.old at out.new result }
 {
-    if !in_limits(s.participants, s.currencies, s.securities, s.count) {
+    let rules = &s.rules;
+    let floor = &s.floor;
+    if !in_limits(rules, floor.count) {
         return at;
     }
-    let end = put_day(out, at, s);
-    let money = s.money;
-    let last = put_accounts(out, end, money, s.currencies);
-    let rules = rules_of(s);
-    let records = s.records;
-    put_records(out, last, rules, records)
+    let end = put_day(out, at, rules, floor);
+    let last = put_accounts(out, end, &floor.money, rules.currencies);
+    put_records(out, last, rules, &s.records)
 }

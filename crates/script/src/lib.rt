@@ -16,15 +16,11 @@ ghost use Rattle.script.specs.Playing.{Advances, Follows, Plays, Stands, Starts,
 use dayfile::{MAX_TEXT, begin, is_done};
 use ending::put_end;
 use head_lines::heading_of;
-use heading::MALFORMED;
 use lines::Line;
-use market::{Answer, Call, Dealing, LENT_AT_LEAST, MAX_MEMBERS, MIN_MEMBERS, State};
+use market::{Answer, Call, Dealing, LENT_AT_LEAST, MAX_MEMBERS, MIN_MEMBERS, Refusal, State};
 use printing::{put_answer, put_trades};
 use reading::{Reading, command_at};
 use words::{Word, word_at};
-
-// Question 3.
-const GROUP_SIZE: u64 = 3;
 
 const MAX_LENT: u64 = 4096;
 
@@ -34,7 +30,8 @@ const MAX_TRADES: u64 = 136;
 pub const ROOM: usize = 81920;
 
 // How far a script is played: the state, the place where the text goes on and the number of its line there, how much of
-// the buffer is filled, how many numbers are lent, and whether all is printed.
+// the buffer is filled, how many numbers are lent, and whether all is printed. `over` is no Option around the rest: what is
+// printed of a play that is over is read from it, too.
 #[derive(Clone, Copy)]
 pub struct Play {
     pub state: State,
@@ -45,13 +42,6 @@ pub struct Play {
     pub over: bool,
 }
 
-fn trades_of(answer: Answer) -> u64 {
-    match answer {
-        Answer::Refused(_, _) => 0,
-        Answer::Done(_, _, _, count) => count,
-    }
-}
-
 // A command's answer and its trades. No call makes more than 136.
 fn put_command(out: &mut [u8], at: usize, line: u64, answer: Answer, trades: &[u64]) -> usize
     requires max_lent_in_bounds { max_lent ≤ length trades.now }
@@ -59,47 +49,45 @@ fn put_command(out: &mut [u8], at: usize, line: u64, answer: Answer, trades: &[u
     ensures { Adds room out.old at out.new result }
 {
     let end = put_answer(out, at, line, answer);
-    let count = trades_of(answer);
+    let Answer::Done(_, _, _, count) = answer else {
+        return end;
+    };
     if MAX_TRADES < count {
         return end;
     }
     put_trades(out, end, trades, count)
 }
 
-// The play after a line that is no call and left the state as it was.
-fn answered(p: Play, next: usize, answer: Answer, out: &mut [u8]) -> Play
-    requires { Stands p out.old }
-    ensures { Follows (line_room 7) p next out.old result out.new }
+// Goes on after a line that is no call and left the state as it was.
+fn answered(p: &mut Play, next: usize, answer: Answer, out: &mut [u8])
+    requires { Stands p.old out.old }
+    ensures { Follows (line_room 7) p.old next out.old p.new out.new }
 {
-    let mut r = p;
-    r.filled = put_answer(out, p.filled, p.line, answer);
-    r.line = std::num::wrapping_add_u64(p.line, 1);
-    r.at = next;
-    r
+    p.filled = put_answer(out, p.filled, p.line, answer);
+    p.line = p.line.wrapping_add(1);
+    p.at = next;
 }
 
 // `LENT,n`.
-fn lend(p: Play, next: usize, n: u64, out: &mut [u8]) -> Play
-    requires { Stands p out.old }
-    ensures { Follows room p next out.old result out.new }
+fn lend(p: &mut Play, next: usize, n: u64, out: &mut [u8])
+    requires { Stands p.old out.old }
+    ensures { Follows room p.old next out.old p.new out.new }
 {
     if MAX_LENT < n {
-        return answered(p, next, Answer::Refused(MALFORMED, 0), out);
+        answered(p, next, Answer::from(Refusal::Malformed), out);
+    } else {
+        answered(p, next, Answer::Done(0, 0, 0, 0), out);
+        p.lent = n as usize;
     }
-    let mut r = answered(p, next, Answer::Done(0, 0, 0, 0), out);
-    r.lent = n as usize;
-    r
 }
 
 // `SHOW`.
-fn show(p: Play, next: usize, out: &mut [u8]) -> Play
-    requires { Stands p out.old }
-    ensures { Follows room p next out.old result out.new }
+fn show(p: &mut Play, next: usize, out: &mut [u8])
+    requires { Stands p.old out.old }
+    ensures { Follows room p.old next out.old p.new out.new }
 {
-    let mut r = answered(p, next, Answer::Done(0, 0, 0, 0), out);
-    let s = p.state;
-    r.filled = put_end(out, r.filled, s);
-    r
+    answered(p, next, Answer::Done(0, 0, 0, 0), out);
+    p.filled = put_end(out, p.filled, &p.state);
 }
 
 // Reading already refuses such a group, before question 2.
@@ -107,78 +95,63 @@ fn is_wrong_group(call: Call) -> bool {
     let Call::Group(_, n) = call else {
         return false;
     };
-    if n < MIN_MEMBERS {
-        return true;
-    }
-    MAX_MEMBERS < n
+    !(MIN_MEMBERS..=MAX_MEMBERS).contains(&n)
 }
 
-// An act on the records. What follows the call stands here and in `carry_out`: in a function of its own it would copy the state
-// three times more.
-fn deal(p: Play, reading: Reading, dealing: Dealing, trades: &mut [u64], out: &mut [u8]) -> Play
-    requires max_lent_in_bounds { max_lent ≤ length trades.old }
-    requires stands { Stands p out.old }
-    ensures { Follows room p reading.next out.old result out.new }
+// Goes on after a call, whose trades stand in the list.
+fn called(p: &mut Play, reading: &Reading, answer: Answer, trades: &[u64], out: &mut [u8])
+    requires max_lent_in_bounds { max_lent ≤ length trades.now }
+    requires stands { Stands p.old out.old }
+    ensures { Follows room p.old reading.now.next out.old p.new out.new }
 {
-    let s = p.state;
-    let lent = p.lent;
-    let outcome = engine::deal(s, dealing, &mut trades[..lent]);
-    let answer = outcome.answer;
-    let state = outcome.state;
-    Play {
-        state,
-        at: reading.next,
-        line: std::num::wrapping_add_u64(p.line, reading.lines),
-        filled: put_command(out, p.filled, p.line, answer, trades),
-        lent,
-        over: false,
-    }
+    p.filled = put_command(out, p.filled, p.line, answer, trades);
+    p.line = p.line.wrapping_add(reading.lines);
+    p.at = reading.next;
+}
+
+// An act on the records.
+fn deal(p: &mut Play, reading: &Reading, dealing: Dealing, trades: &mut [u64], out: &mut [u8])
+    requires max_lent_in_bounds { max_lent ≤ length trades.old }
+    requires stands { Stands p.old out.old }
+    ensures { Follows room p.old reading.now.next out.old p.new out.new }
+{
+    let answer = engine::deal_in_place(&mut p.state, dealing, &mut trades[..p.lent]);
+    called(p, reading, answer, trades, out);
 }
 
 // A line of a day file, or a word that is a call; what is read takes as many lines either way.
-fn carry_out(p: Play, reading: Reading, says: Line, trades: &mut [u64], out: &mut [u8]) -> Play
+fn carry_out(p: &mut Play, reading: &Reading, says: Line, trades: &mut [u64], out: &mut [u8])
     requires max_lent_in_bounds { max_lent ≤ length trades.old }
-    requires stands { Stands p out.old }
-    ensures { Follows room p reading.next out.old result out.new }
+    requires stands { Stands p.old out.old }
+    ensures { Follows room p.old reading.now.next out.old p.new out.new }
 {
     let Line::Call(call) = says else {
-        return answered(p, reading.next, Answer::Refused(MALFORMED, 0), out);
+        answered(p, reading.next, Answer::from(Refusal::Malformed), out);
+        return;
     };
     if is_wrong_group(call) {
-        return answered(p, reading.next, Answer::Refused(GROUP_SIZE, 0), out);
+        answered(p, reading.next, Answer::from(Refusal::GroupSize), out);
+        return;
     }
-    let s = p.state;
-    let lent = p.lent;
-    let members = reading.members;
-    let outcome = engine::call(s, call, members, &mut trades[..lent]);
-    let answer = outcome.answer;
-    let state = outcome.state;
-    Play {
-        state,
-        at: reading.next,
-        line: std::num::wrapping_add_u64(p.line, reading.lines),
-        filled: put_command(out, p.filled, p.line, answer, trades),
-        lent,
-        over: false,
-    }
+    let members = &reading.members;
+    let answer = engine::call_in_place(&mut p.state, call, members, &mut trades[..p.lent]);
+    called(p, reading, answer, trades, out);
 }
 
 // The command at the play's place.
-fn command(text: &[u8], p: Play, trades: &mut [u64], out: &mut [u8]) -> Play
+fn command(text: &[u8], p: &mut Play, trades: &mut [u64], out: &mut [u8])
     requires max_lent_in_bounds { max_lent ≤ length trades.old }
-    requires at_in_bounds { p.at < length text.now }
-    requires stands { Stands p out.old }
-    ensures { Advances text.now p out.old result out.new }
+    requires at_in_bounds { p.old.at < length text.now }
+    requires stands { Stands p.old out.old }
+    ensures { Advances text.now p.old out.old p.new out.new }
 {
     let reading = command_at(text, p.at);
-    let says = reading.says;
-    let word = word_at(text, p.at);
-    match word {
-        Word::Lend(n) => lend(p, reading.next, n, out),
-        Word::Show => show(p, reading.next, out),
-        Word::Call(call) => carry_out(p, reading, Line::Call(call), trades, out),
-        Word::Dealing(dealing) => deal(p, reading, dealing, trades, out),
-        Word::Other => carry_out(p, reading, says, trades, out),
+    match word_at(text, p.at) {
+        Some(Word::Lend(n)) => lend(p, reading.next, n, out),
+        Some(Word::Show) => show(p, reading.next, out),
+        Some(Word::Call(call)) => carry_out(p, &reading, Line::Call(call), trades, out),
+        Some(Word::Dealing(dealing)) => deal(p, &reading, dealing, trades, out),
+        None => carry_out(p, &reading, reading.says, trades, out),
     }
 }
 
@@ -188,9 +161,8 @@ fn too_long(text: &[u8], out: &mut [u8]) -> Play
     ensures { Starts out.old result out.new }
 {
     let r = begin(text, out);
-    let state = r.state;
     Play {
-        state,
+        state: r.state,
         at: r.at,
         line: r.line,
         filled: r.filled,
@@ -208,11 +180,9 @@ pub fn start(text: &[u8], out: &mut [u8]) -> Play
         return too_long(text, out);
     }
     let heading = heading_of(text);
-    let outcome = heading.outcome;
-    let answer = outcome.answer;
-    let state = outcome.state;
+    let answer = heading.outcome.answer;
     Play {
-        state,
+        state: heading.outcome.state,
         at: heading.at,
         line: heading.next,
         filled: put_answer(out, 0, heading.line, answer),
@@ -228,23 +198,21 @@ pub fn resume(text: &[u8], from: Play, out: &mut [u8]) -> Play
 {
     let mut trades = [0u64; 4096];
     let mut p = from;
-    while p.at < text.len() {
-        if out.len() - ROOM < p.filled {
-            return p;
-        }
-        p = command(text, p, &mut trades, out);
+    let last_start = out.len() - ROOM;
+    while p.at < text.len() && p.filled <= last_start {
+        command(text, &mut p, &mut trades, out);
     }
-    if out.len() - ROOM < p.filled {
+    if last_start < p.filled {
         return p;
     }
-    let s = p.state;
-    p.filled = put_end(out, p.filled, s);
+    // With room left, the commands stopped after the last of them.
+    p.filled = put_end(out, p.filled, &p.state);
     p.over = true;
     p
 }
 
 // The whole script in one buffer, for hosts in other languages: how many bytes are printed, or 0 where the buffer has no
-// room for them.
+// room for them. 0, no Option: as `whole_day` of day files, and script_c hands the number to C.
 pub fn run_script(text: &[u8], out: &mut [u8]) -> usize {
     if out.len() < ROOM {
         return 0;

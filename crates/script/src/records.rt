@@ -6,7 +6,7 @@ ghost use Rattle.market.specs.Ledger.{first_deals, records_sound};
 ghost use Rattle.market.proofs.Known.{RulesOk};
 ghost use Rattle.script.specs.Rooms.{Adds, deal_room, records_room};
 
-use amounts::{from_u8, from_u16, from_u32, sum_for};
+use amounts::sum_for;
 use dealings::part_of;
 use deals::records_sound;
 use market::{Deal, MAX_RATE, Records, Rules};
@@ -14,30 +14,24 @@ use printing::put_worded;
 use soundness::{counts_sound, table_sound};
 
 // Are the rules sound? Those of every sound state are.
-fn rules_sound(rules: Rules) -> bool
-    ensures { result ≡ true → RulesOk rules }
+fn rules_sound(rules: &Rules) -> bool
+    ensures { result ≡ true → RulesOk rules.now }
 {
-    if !counts_sound(rules.participants, rules.currencies, rules.securities) {
-        return false;
-    }
-    let table = rules.table;
-    if !table_sound(rules.currencies, rules.securities, table) {
-        return false;
-    }
-    rules.rate <= MAX_RATE
+    counts_sound(rules.participants, rules.currencies, rules.securities)
+        && table_sound(rules.currencies, rules.securities, rules.table)
+        && rules.rate <= MAX_RATE
 }
 
 // S1.
-fn first_sum(rules: Rules, deal: Deal) -> u64
-    requires { RulesOk rules × (deal_sound rules deal ≡ true) }
+fn first_sum(rules: &Rules, deal: Deal) -> u64
+    requires { RulesOk rules.now × (deal_sound rules.now deal ≡ true) }
 {
-    let table = rules.table;
-    let row = table[from_u8(deal.security) as usize];
-    sum_for(row, from_u32(deal.price), from_u16(deal.lots))
+    let row = rules.table[usize::from(deal.security)];
+    sum_for(row, u64::from(deal.price), u64::from(deal.lots))
 }
 
-fn put_deal(out: &mut [u8], at: usize, place: u64, rules: Rules, deal: Deal) -> usize
-    requires rules_ok { RulesOk rules × (deal_sound rules deal ≡ true) }
+fn put_deal(out: &mut [u8], at: usize, place: u64, rules: &Rules, deal: Deal) -> usize
+    requires rules_ok { RulesOk rules.now × (deal_sound rules.now deal ≡ true) }
     requires deal_room_in_bounds { at + deal_room ≤ length out.old }
     ensures { Adds deal_room out.old at out.new result }
 {
@@ -47,10 +41,10 @@ fn put_deal(out: &mut [u8], at: usize, place: u64, rules: Rules, deal: Deal) -> 
         part.buyer,
         part.seller,
         part.security,
-        from_u16(deal.lots),
-        from_u32(deal.price),
-        from_u16(deal.rate),
-        from_u32(deal.first),
+        u64::from(deal.lots),
+        u64::from(deal.price),
+        u64::from(deal.rate),
+        u64::from(deal.first),
         part.due,
         first_sum(rules, deal),
         part.sum,
@@ -59,34 +53,28 @@ fn put_deal(out: &mut [u8], at: usize, place: u64, rules: Rules, deal: Deal) -> 
 }
 
 // The open deals, oldest first; places count from 1.
-fn put_deals(out: &mut [u8], at: usize, rules: Rules, records: Records) -> usize
-    requires rules_ok { RulesOk rules }
-    requires deals_value { records_sound rules records.date (first_deals records.count records.deals) ≡ true }
+fn put_deals(out: &mut [u8], at: usize, rules: &Rules, records: &Records) -> usize
+    requires rules_ok { RulesOk rules.now }
+    requires deals_value { records_sound rules.now records.now.date (first_deals records.now.count records.now.deals) ≡ true }
     requires deal_room_in_bounds { at + max_deals * deal_room ≤ length out.old }
     ensures { Adds (max_deals * deal_room) out.old at out.new result }
 {
     let mut end = at;
-    let mut i: usize = 0;
-    while i < records.count {
-        let deal = records.deals[i];
-        i += 1;
-        end = put_deal(out, end, i as u64, rules, deal);
+    for (i, deal) in records.deals[..records.count].iter().enumerate() {
+        end = put_deal(out, end, i as u64 + 1, rules, *deal);
     }
     end
 }
 
 // Date and open deals; what unsound deals cost isn't reckoned.
-pub fn put_records(out: &mut [u8], at: usize, rules: Rules, records: Records) -> usize
+pub fn put_records(out: &mut [u8], at: usize, rules: &Rules, records: &Records) -> usize
     requires { at + records_room ≤ length out.old }
     ensures { Adds records_room out.old at out.new result }
 {
-    let date = [records.date];
-    let end = put_worded(out, at, b"DATE", &date);
-    if !rules_sound(rules) {
-        return end;
+    let end = put_worded(out, at, b"DATE", &[records.date]);
+    if rules_sound(rules) && records_sound(rules, records) {
+        put_deals(out, end, rules, records)
+    } else {
+        end
     }
-    if !records_sound(rules, records) {
-        return end;
-    }
-    put_deals(out, end, rules, records)
 }

@@ -1,168 +1,129 @@
--- The questions of a closing order in the parts in which code asks them, and the call, on the parts of a sound day.
+-- The questions of a closing order, as the code asks them on a floor, and the call.
 use Prim.Native.Nat.{ℕ, ◌≤◌, ◌<◌}
 use native.Mathlib.Omega.{arith}
-use mathlib.Core.Path.{◌≡◌, refl, ap, sym, subst, ◌∙◌}
+use mathlib.Core.Path.{◌≡◌, refl, sym, ◌∙◌}
 use mathlib.Core.List.{List, [], ◌++◌}
-use lib.ListN.{get_or}
 use borrow.Author.Tests.{ltb-true}
-use Rattle.market.specs.declared.Answer.TheVariants.{Done, Refused}
+use Rattle.market.specs.declared.Access.TheVariants.{ClosingOrder}
+use Rattle.market.specs.declared.Answer.{Answer}
+use Rattle.market.specs.declared.Answer.TheVariants.{Refused}
+use Rattle.market.specs.declared.Floor.{Floor}
 use Rattle.market.specs.declared.Order.{Order}
-use Rattle.market.specs.declared.OrderBook.{OrderBook}
-use Rattle.market.specs.declared.Phase.{Phase}
+use Rattle.market.specs.declared.Refusal.{Refusal}
 use Rattle.market.specs.declared.Rules.{Rules}
 use Rattle.market.specs.declared.Side.{Side}
-use Rattle.market.specs.declared.Turnover.{Turnover}
-use Rattle.market.specs.Limits.{max_lots, max_participants, max_securities}
+use Rattle.market.specs.Limits.{max_lots}
 use Rattle.market.specs.Day.{Day, turnover_at}
 use Rattle.market.specs.View.{day_of}
 use Rattle.market.specs.Calls.{Call, closing_of, closing_order}
-use Rattle.market.specs.Questions.{Question, closing_questions, first_no, questions}
+use Rattle.market.specs.Phases.{admits}
+use Rattle.market.specs.Questions.{Question, closing_questions, covered, first_no, questions}
+use Rattle.market.specs.Refusals.{number_of}
 use Rattle.market.specs.Entry.{placed}
 use Rattle.market.specs.Step.{effect}
-use Rattle.market.specs.Parts.{Carries, Ready, listing}
-use Rattle.market.proofs.Known.{listing_ok}
+use Rattle.market.specs.Parts.{Carries, Ready}
 use Rattle.market.proofs.Logic.{within_high}
 use Rattle.market.proofs.Questions.{AllYes, all_yes, hides, passes, yes}
 use Rattle.market.proofs.Parts.{carries_accept, carries_refuse}
 use Rattle.market.proofs.Turnovers.{closing_bounds}
 use Rattle.market.proofs.View.{first_length}
-use Rattle.invariant.specs.Standing.{Standing}
+use Rattle.invariant.specs.Standing.{Placeable, Standing}
 use Rattle.invariant.proofs.Placed.{closing_placeable}
 use Rattle.invariant.proofs.Sound.{ready_standing}
 use Rattle.codes.specs.Numbers.{Numberable}
-use Rattle.waiting.specs.Appending.{Admits, AppendedAs, Appendable, Appends}
+use Rattle.orders.specs.Entering.{open_questions}
+use Rattle.orders.proofs.Asking.{positive}
 use Rattle.waiting.specs.Claims.{Reckonable}
-use Rattle.waiting.proofs.Days.{covered_is}
-use Rattle.session.specs.Asking.{Askable, ClosingNo}
-use Rattle.session.specs.Asking.{closing_claim, closing_with, early_closing, later_closing}
+use Rattle.waiting.proofs.Claims.{known_reckons}
+use Rattle.session.specs.Asking.{closing_claim, later_questions}
 
--- what a closing order is numbered with
-pub counted : {r : Rules} {t : List Turnover} {codes : List ℕ} {p : ℕ} → Askable r t codes → p < r.participants
-    → Numberable r.participants codes p
-counted k h = record { few = k.rules.participants; codes = k.codes; participant = h }
+module _ (r : Rules) (f : Floor) (standing : Standing (day_of r f)) (p : ℕ) (side : Side) (s n : ℕ) where
+  abbrev d : Day
+  d = day_of r f
 
--- the questions of a closing order, of a day of these parts
-asked_in_parts : (r : Rules) (x : Phase) (m k : List ℕ) (b : OrderBook) (p : ℕ) (side : Side) (s n : ℕ)
-    → first_no (closing_questions (day_of r x m k b) p side s n)
-    ≡ first_no (early_closing r.participants r.securities x p s n
-    ++ later_closing (listing r s) (turnover_at b.turnover s) b.count (get_or b.codes p 0) (closing_claim p side s n) m k)
-unfolding closing_questions
-asked_in_parts r x m k b p side s n =
-    rw (first_length b.count b.orders, ← covered_is (day_of r x m k b) (listing r s) (closing_of (day_of r x m k b) p side s n) refl)
-
--- the first "no", where so many codes are given
-module _ (r : Rules) (x : Phase) (codes : List ℕ) (p : ℕ) (side : Side) (s n : ℕ) where
   abbrev early : List Question
-  early = early_closing r.participants r.securities x p s n
+  early = open_questions r (admits f.phase ClosingOrder) p s n
 
-  abbrev later : List Turnover → ℕ → (codes m k : List ℕ) → Order → List Question
-  later t count codes m k o = later_closing (listing r s) (turnover_at t s) count (get_or codes p 0) o m k
+  abbrev later : List Question
+  later = later_questions r f (closing_claim p side s n)
 
-  pub no_early : (t : List Turnover) (count : ℕ) (m k : List ℕ) (i : ℕ) → 0 < i → i ≡ first_no early
-      → ClosingNo r x t count codes m k p side s n i
-  no_early t count m k i h e = λ b turnover counted given.
-      let rest = later b.turnover b.count b.codes m k (closing_claim p side s n) in
-      e ∙ sym (asked_in_parts r x m k b p side s n ∙ hides early rest (omega arith))
+  abbrev asked : List Question
+  asked = closing_questions d p side s n
+
+  -- no need reads code or arrival
+  covered_is : covered d (closing_claim p side s n) ≡ covered d (closing_of d p side s n)
+  unfolding covered
+  covered_is = refl
+
+  -- the definition's questions are the early ones and the later ones
+  asked_in_turn : first_no asked ≡ first_no (early ++ later)
+  unfolding closing_questions
+  asked_in_turn = rw (first_length f.count f.orders, covered_is)
+
+  pub no_early : (q : Refusal) → number_of q ≡ first_no early → number_of q ≡ first_no asked
+  no_early q e = e ∙ sym (asked_in_turn ∙ hides early later (omega (arith, e, positive q)))
 
   -- 4 to 7 are answered "yes"
-  module _ {t : List Turnover} (ask : Askable r t codes) (none : first_no early ≡ 0) where
-    yeses : AllYes early
-    yeses = all_yes early tt none
+  module _ (none : 0 ≡ first_no early) where
+    early_yes : AllYes early
+    early_yes = all_yes early tt (sym none)
 
     listed : s < r.securities
-    listed = ltb-true s r.securities yeses.1.0
-
-    pub in_rules : s < max_securities
-    in_rules = omega (arith, listed, ask.rules.securities)
-
-    -- his count stands in the book
-    pub in_counts : p < max_participants
-    in_counts = omega (arith, ltb-true p r.participants yeses.0, ask.rules.participants)
+    listed = ltb-true s r.securities early_yes.1.0
 
     pub in_lots : n ≤ max_lots
-    in_lots = within_high 1 max_lots n yeses.1.1.1.0
+    in_lots = within_high 1 max_lots n early_yes.1.1.1.0
 
-    pub reckonable : {o : Order} → o ≡ closing_claim p side s n → Reckonable (listing r s) (turnover_at t s) o
-    reckonable e =
-        let ok = ask.rules in
-        rw e
-        (record {
-          participant = in_counts;
-          security = in_rules;
-          currency = omega (arith, ok.currency s listed, ok.currencies);
-          listing = listing_ok r s ok listed;
-          limit = ask.prices s listed;
-          top = in_lots;
-        })
+    pub reckonable : Reckonable d (closing_claim p side s n)
+    reckonable =
+        let limit = (closing_bounds (turnover_at f.turnover s) (standing.turnovers s listed)).0 in
+        known_reckons d (closing_claim p side s n) standing.backed.rules_ok (ltb-true p r.participants early_yes.0) listed limit in_lots
 
-    pub no_later : {o : Order} → o ≡ closing_claim p side s n → (count : ℕ) (m k : List ℕ) (i : ℕ)
-        → i ≡ first_no (later t count codes m k o) → ClosingNo r x t count codes m k p side s n i
-    no_later entry count m k i e = λ b turnover counted given.
-        let rest = later b.turnover b.count b.codes m k (closing_claim p side s n) in
-        e
-        ∙ ap (λ (z : Order). first_no (later t count codes m k z)) entry
-        ∙ ap (λ (z : List Turnover). first_no (later z count codes m k (closing_claim p side s n))) (sym turnover)
-        ∙ ap (λ (z : ℕ). first_no (later b.turnover z codes m k (closing_claim p side s n))) (sym counted)
-        ∙ ap (λ (z : List ℕ). first_no (later b.turnover b.count z m k (closing_claim p side s n))) (sym given)
-        ∙ sym (asked_in_parts r x m k b p side s n ∙ passes early rest yeses)
+    pub no_later : {i : ℕ} → i ≡ first_no later → i ≡ first_no asked
+    no_later e = e ∙ sym (asked_in_turn ∙ passes early later early_yes)
 
--- a closing order on the parts of a sound day
-module _ (r : Rules) (x : Phase) (m k : List ℕ) (b : OrderBook) (ready : Ready r x m k b) where
-  abbrev d : Day
-  d = day_of r x m k b
+-- a closing order
+module _ (r : Rules) (f : Floor) (ready : Ready r f) (p : ℕ) (side : Side) (s n : ℕ) where
+  abbrev day : Day
+  day = day_of r f
 
-  standing : Standing d
-  standing = ready_standing ready
+  abbrev call : Call
+  call = closing_order p side s n
 
-  pub askable : Askable r b.turnover b.codes
-  askable = record {
-    rules = standing.backed.rules_ok;
-    codes = standing.limit;
-    prices = λ s h. (closing_bounds (turnover_at b.turnover s) (standing.turnovers s h)).0;
-  }
+  abbrev all : List Question
+  all = closing_questions day p side s n
 
-  module _ (p : ℕ) (side : Side) (s n : ℕ) where
-    abbrev call : Call
-    call = closing_order p side s n
+  pub refuse : (q : Refusal) → number_of q ≡ first_no all → Carries r f [] call f [] (Refused (number_of q) 0)
+  unfolding questions
+  refuse q e = carries_refuse r f [] call ready.sound (number_of q) (positive q) (sym e)
 
-    abbrev asked : List Question
-    asked = closing_questions d p side s n
+  -- all are answered "yes"
+  module _ (none : 0 ≡ first_no all) where
+    yeses : AllYes all
+    unfolding closing_questions
+    yeses = all_yes all tt (sym none)
 
-    pub refuse : (i : ℕ) → 0 < i → i ≡ first_no asked
-        → Carries r x m k b [] call m k [] (record { answer = Refused i 0; phase = x; book = b })
-    unfolding questions
-    refuse i h e = carries_refuse r x m k b [] call ready.sound i h (sym e)
+    pub lots_kept : n ≤ max_lots
+    unfolding closing_questions
+    lots_kept = within_high 1 max_lots n (yes 7 all yeses)
 
-    -- all are answered "yes"
-    module _ (none : first_no asked ≡ 0) where
-      yeses_all : AllYes asked
-      unfolding closing_questions
-      yeses_all = all_yes asked tt none
+    pub numberable : Numberable r.participants f.codes p
+    unfolding closing_questions
+    numberable =
+        let st = ready_standing ready in
+        record {
+          few = st.backed.rules_ok.participants;
+          codes = st.limit;
+          participant = ltb-true p r.participants (yes 4 all yeses);
+        }
 
-      pub in_table : s < max_securities
-      unfolding closing_questions
-      in_table =
-          omega (arith, ltb-true s r.securities (yes 5 asked yeses_all), standing.backed.rules_ok.securities)
+    module _ {o : Order} (entry : o ≡ closing_of day p side s n) where
+      pub placeable : Placeable day o
+      placeable = rw entry (closing_placeable day p side s n (sym none))
 
-      -- it can be numbered, and its lots stored
-      pub makeable : Numberable r.participants b.codes p × (n ≤ max_lots)
-      unfolding closing_questions
-      makeable = (
-        counted askable (ltb-true p r.participants (yes 4 asked yeses_all)),
-        within_high 1 max_lots n (yes 7 asked yeses_all),
-      )
-
-      module _ {o : Order} (entry : o ≡ closing_with r.participants b.codes p side s n) where
-        admits : Admits r x (listing r s) b o m k
-        admits = rw entry (record { listing = refl; standing = standing; placeable = closing_placeable d p side s n none })
-
-        pub appendable : Appendable (listing r s) b o m k
-        appendable = record { rules = r; phase = x; admits = admits }
-
-        pub appended : {m' k' : List ℕ} (b' : OrderBook) → Appends (listing r s) b o m k m' k' b'
-            → Carries r x m k b [] call m' k' []
-            (record { answer = Done b'.code b'.filled b'.left b'.trades; phase = x; book = b' })
-        unfolding questions effect placed
-        appended {m'} {k'} b' done =
-            let y = subst (λ (w : Order). AppendedAs (placed d w) r x m' k' b') entry (done r x admits) in
-            carries_accept r x m k b [] call ready.sound m' k' [] _ none y.answer y.day refl
+      pub waits : {f' : Floor} {x : Answer} → x ≡ (placed day o).answer → day_of r f' ≡ (placed day o).day
+          → Carries r f [] call f' [] x
+      unfolding questions effect placed
+      waits {f'} {x} answer after =
+          rw answer
+          (carries_accept r f [] call ready.sound f' [] _ _ _ _ (sym none) (rw entry) (rw entry at after) refl)

@@ -1,27 +1,29 @@
-// The sessions outside continuous trading, on parts: their starts, closing orders, their ends. Positions and the trade list are
-// lent, the order book goes by value.
+// The sessions outside continuous trading, on a lent floor: their starts, closing orders, their ends.
 #![tactic(auto)]
 
 ghost use Rattle.std.specs.Prelude.{◌<◌, ◌≤◌, ◌≡◌, []};
 ghost use Rattle.market.specs.Limits.{max_lots, max_securities};
 ghost use Rattle.market.specs.Calls.{closing_order};
 ghost use Rattle.market.specs.Phases.{admits as admitsCall};
-ghost use Rattle.market.specs.Questions.{first_no};
+ghost use Rattle.market.specs.Questions.{closing_questions, first_no};
+ghost use Rattle.market.specs.Refusals.{number_in};
 ghost use Rattle.market.specs.Parts.{Carries, Ready, end_of, start_of};
-ghost use Rattle.matching.specs.Orders.{FewLots, waiting_in};
-ghost use Rattle.codes.specs.Numbers.{Numberable};
+ghost use Rattle.market.specs.View.{day_of, first_orders};
+ghost use Rattle.invariant.specs.Standing.{Standing};
+ghost use Rattle.matching.specs.Orders.{FewLots};
 ghost use Rattle.waiting.specs.Claims.{Reckonable};
-ghost use Rattle.session.specs.Sessions.{Endable, Ends, PairsAll, end_access, next_phase, phase_of, start_access, starts_at, terms_with};
-ghost use Rattle.session.specs.Asking.{Askable, ClosingNo, closing_claim, closing_with, early_closing, later_closing};
+ghost use Rattle.session.specs.Sessions.{Endable, PairsAll, end_access, next_phase, phase_of, start_access, starts_at, terms_with};
+ghost use Rattle.session.specs.Asking.{closing_claim, later_questions};
 
-use amounts::{closing_price, within};
+use amounts::closing_price;
 use auction::price;
 use codes::{given, numbered};
 use market::{
-    Access, Answer, Carried, Kind, LENT_AT_LEAST, Listing, MAX_LOTS, MAX_OWN_CODES, MAX_WAITING,
-    Order, OrderBook, Phase, Rules, Session, Side, Turnover, declined, registered, unnumbered,
+    Access, Answer, Floor, Kind, LENT_AT_LEAST, MAX_OWN_CODES, MAX_WAITING, Order, Phase, Refusal,
+    Rules, Session, Side, unnumbered,
 };
-use pairing::{free_all, pair_all};
+use orders::early_no;
+use pairing::{Tally, free_all, pair_all};
 use phases::admits;
 use waiting::{append, covers};
 
@@ -82,20 +84,17 @@ fn next_phase(session: Session) -> Phase
 }
 
 // The terms in a security when its turn comes; the trades before it in other securities don't move them.
-fn terms_for(session: Session, book: OrderBook, security: u64) -> Terms
-    requires { FewLots book.count (waiting_in book) × (security < max_securities) }
-    ensures { record { limit = result.limit; price = result.price } ≡ terms_with session book security }
+fn terms_for(session: Session, floor: &Floor, security: u64) -> Terms
+    requires { FewLots (first_orders floor.now.count floor.now.orders) × (security < max_securities) }
+    ensures { record { limit = result.limit; price = result.price } ≡ terms_with session floor.now security }
 {
     match session {
-        Session::Closing => {
-            let turnover = book.turnover[security as usize];
-            Terms {
-                limit: Kind::Closing,
-                price: closing_price(turnover),
-            }
-        }
+        Session::Closing => Terms {
+            limit: Kind::Closing,
+            price: closing_price(floor.turnover[security as usize]),
+        },
         Session::Collecting => {
-            let price = price(book, security);
+            let price = price(&floor.orders[..floor.count], security);
             Terms {
                 limit: Kind::Kept(price),
                 price,
@@ -104,116 +103,25 @@ fn terms_for(session: Session, book: OrderBook, security: u64) -> Terms
     }
 }
 
-// Security by security, under the terms of the session. Lots and trades of the book are those of the pairing.
-fn pair_securities(
-    session: Session,
-    b: OrderBook,
-    rules: Rules,
-    money: &mut [u64; 544],
-    pieces: &mut [u64; 544],
-    trades: &mut [u64],
-) -> OrderBook
-    requires { Endable session rules b money.old pieces.old trades.old }
-    ensures { PairsAll session rules b money.old pieces.old trades.old money.new pieces.new trades.new result }
+// Security by security, under the terms of the session.
+fn pair_securities(session: Session, floor: &mut Floor, rules: &Rules, trades: &mut [u64]) -> Tally
+    requires { Endable session rules.now floor.old trades.old }
+    ensures { PairsAll session rules.now floor.old trades.old floor.new trades.new result }
 {
-    let mut book = b;
-    book.filled = 0;
-    book.left = 0;
-    book.trades = 0;
-    let mut security: u64 = 0;
-    while security < rules.securities {
-        let row = rules.table[security as usize];
-        let listing = Listing {
-            row,
-            rate: rules.rate,
-        };
-        let terms = terms_for(session, book, security);
-        let limit = terms.limit;
-        book = pair_all(
-            book,
+    let mut tally = Tally { lots: 0, trades: 0 };
+    for security in 0..rules.securities {
+        let terms = terms_for(session, floor, security);
+        pair_all(
+            floor,
+            rules,
             security,
-            limit,
+            terms.limit,
             terms.price,
-            listing,
-            money,
-            pieces,
             trades,
+            &mut tally,
         );
-        security += 1;
     }
-    book
-}
-
-// Orders are paired, the rest come off. The caller's phase is another one then.
-fn end_pairing(
-    session: Session,
-    b: OrderBook,
-    rules: Rules,
-    money: &mut [u64; 544],
-    pieces: &mut [u64; 544],
-    trades: &mut [u64],
-) -> OrderBook
-    requires { Endable session rules b money.old pieces.old trades.old }
-    ensures { Ends session rules b money.old pieces.old trades.old money.new pieces.new trades.new result }
-{
-    let mut book = pair_securities(session, b, rules, money, pieces, trades);
-    free_all(book, rules, money, pieces);
-    book.count = 0;
-    book
-}
-
-// The first "no" of questions 4 to 7 of a closing order, which ask for no row of the table; 0 where there is none.
-fn early_closing_no(
-    participants: u64,
-    securities: u64,
-    phase: Phase,
-    participant: u64,
-    security: u64,
-    lots: u64,
-) -> u64
-    ensures { result ≡ first_no (early_closing participants securities phase participant security lots) }
-{
-    if participants <= participant {
-        return 4;
-    }
-    if securities <= security {
-        return 5;
-    }
-    if !admits(phase, Access::ClosingOrder) {
-        return 6;
-    }
-    if !within(1, MAX_LOTS, lots) {
-        return 7;
-    }
-    0
-}
-
-// The first "no" of questions 11 to 14; 0 where there is none.
-fn later_closing_no<'a>(
-    money: &'a [u64; 544],
-    pieces: &'a [u64; 544],
-    listing: Listing,
-    turnover: Turnover,
-    count: usize,
-    own: u64,
-    o: Order,
-) -> u64
-    requires { Reckonable listing turnover o }
-    ensures { result ≡ first_no (later_closing listing turnover count own o money.now pieces.now) }
-{
-    if turnover.pieces == 0 {
-        return 11;
-    }
-    if MAX_WAITING as usize <= count {
-        return 12;
-    }
-    if MAX_OWN_CODES <= own {
-        return 13;
-    }
-    if !covers(money, pieces, listing, turnover, o) {
-        return 14;
-    }
-    0
+    tally
 }
 
 // A closing order before it is numbered, which suffices for question 14: no need reads code or arrival. It has no price.
@@ -224,162 +132,94 @@ fn closing_claim(participant: u64, side: Side, security: u64, lots: u64) -> Orde
     unnumbered(participant, side, security, lots, Kind::Closing)
 }
 
-// A closing order as it enters, under the next numbers.
-pub fn closing_order(
-    participants: u64,
-    codes: [u64; 16],
-    participant: u64,
-    side: Side,
-    security: u64,
-    lots: u64,
-) -> Order
-    requires { Numberable participants codes participant × (lots ≤ max_lots) }
-    ensures { result ≡ closing_with participants codes participant side security lots }
+// The first "no" of questions 11 to 14.
+fn later_no(floor: &Floor, rules: &Rules, o: Order) -> Result<(), Refusal>
+    requires { Reckonable (day_of rules.now floor.now) o }
+    ensures { number_in result ≡ first_no (later_questions rules.now floor.now o) }
 {
-    numbered(
-        participants,
-        codes,
-        closing_claim(participant, side, security, lots),
-    )
+    if floor.turnover[o.security as usize].pieces == 0 {
+        return Err(Refusal::NothingTraded);
+    }
+    if MAX_WAITING as usize <= floor.count {
+        return Err(Refusal::NoRoom);
+    }
+    if MAX_OWN_CODES <= floor.codes[o.participant as usize] {
+        return Err(Refusal::NoCodeLeft);
+    }
+    if !covers(floor, rules, o) {
+        return Err(Refusal::NotCovered);
+    }
+    Ok(())
 }
 
-// The first "no" of a closing order's questions, which read no waiting order; 0 where there is none.
-pub fn closing_no<'a>(
-    rules: Rules,
-    phase: Phase,
-    turnovers: [Turnover; 16],
-    count: usize,
-    codes: [u64; 16],
-    money: &'a [u64; 544],
-    pieces: &'a [u64; 544],
+// The first "no" of a closing order's questions, which read no waiting order.
+fn closing_no(
+    floor: &Floor,
+    rules: &Rules,
     participant: u64,
     side: Side,
     security: u64,
     lots: u64,
-) -> u64
-    requires { Askable rules turnovers codes }
-    ensures { ClosingNo rules phase turnovers count codes money.now pieces.now participant side security lots result }
+) -> Result<(), Refusal>
+    requires { Standing (day_of rules.now floor.now) }
+    ensures { number_in result ≡ first_no (closing_questions (day_of rules.now floor.now) participant side security lots) }
 {
-    let early = early_closing_no(
-        rules.participants,
-        rules.securities,
-        phase,
-        participant,
-        security,
-        lots,
-    );
-    if 0 < early {
-        return early;
-    }
-    let listed = security as usize;
-    let table = rules.table;
-    let row = table[listed];
-    let turnover = turnovers[listed];
-    let own = codes[participant as usize];
-    let listing = Listing {
-        row,
-        rate: rules.rate,
-    };
-    let o = closing_claim(participant, side, security, lots);
-    later_closing_no(money, pieces, listing, turnover, count, own, o)
+    let admitted = admits(floor.phase, Access::ClosingOrder);
+    early_no(rules, admitted, participant, security, lots)?;
+    let claim = closing_claim(participant, side, security, lots);
+    later_no(floor, rules, claim)
 }
 
 // A session begins, and all waiting orders come off. Before an auction none waits, since no code has been given.
-pub fn start(
-    session: Session,
-    b: OrderBook,
-    rules: Rules,
-    phase: Phase,
-    money: &mut [u64; 544],
-    pieces: &mut [u64; 544],
-) -> Carried
-    requires { Ready rules phase money.old pieces.old b }
-    ensures { Carries rules phase money.old pieces.old b [] (start_of session) money.new pieces.new [] result }
+pub fn start(session: Session, floor: &mut Floor, rules: &Rules) -> Answer
+    requires { Ready rules.now floor.old }
+    ensures { Carries rules.now floor.old [] (start_of session) floor.new [] result }
 {
-    if !admits_start(phase, session) {
-        return declined(b, phase, 6);
+    if !admits_start(floor.phase, session) {
+        return Answer::from(Refusal::WrongPhase);
     }
-    let codes = b.codes;
-    if !starts_at(session, given(rules.participants, codes)) {
-        return declined(b, phase, 21);
+    if !starts_at(session, given(rules.participants, &floor.codes)) {
+        return Answer::from(Refusal::CodesGiven);
     }
-    let mut book = b;
-    free_all(book, rules, money, pieces);
-    book.count = 0;
-    Carried {
-        answer: Answer::Done(0, 0, 0, 0),
-        phase: phase_of(session),
-        book,
-    }
+    free_all(floor, rules);
+    floor.phase = phase_of(session);
+    Answer::Done(0, 0, 0, 0)
 }
 
 // A closing order: its questions, then it only waits.
 pub fn enter_closing_order(
-    b: OrderBook,
-    rules: Rules,
-    phase: Phase,
+    floor: &mut Floor,
+    rules: &Rules,
     participant: u64,
     side: Side,
     security: u64,
     lots: u64,
-    money: &mut [u64; 544],
-    pieces: &mut [u64; 544],
-) -> Carried
-    requires { Ready rules phase money.old pieces.old b }
-    ensures { Carries rules phase money.old pieces.old b [] (closing_order participant side security lots) money.new pieces.new [] result }
+) -> Answer
+    requires { Ready rules.now floor.old }
+    ensures { Carries rules.now floor.old [] (closing_order participant side security lots) floor.new [] result }
 {
-    let turnovers = b.turnover;
-    let codes = b.codes;
-    let number = closing_no(
-        rules,
-        phase,
-        turnovers,
-        b.count,
-        codes,
-        &*money,
-        &*pieces,
-        participant,
-        side,
-        security,
-        lots,
-    );
-    if 0 < number {
-        return declined(b, phase, number);
+    let asked = closing_no(floor, rules, participant, side, security, lots);
+    if let Err(refusal) = asked {
+        return Answer::from(refusal);
     }
-    let o = closing_order(rules.participants, codes, participant, side, security, lots);
-    let table = rules.table;
-    let row = table[security as usize];
-    let listing = Listing {
-        row,
-        rate: rules.rate,
-    };
-    let book = append(b, o, listing, money, pieces);
-    registered(book, phase)
+    let claim = closing_claim(participant, side, security, lots);
+    let o = numbered(rules.participants, &floor.codes, claim);
+    append(floor, rules, o)
 }
 
 // Orders are paired under the session's terms, the rest come off, and the next phase begins.
-pub fn end(
-    session: Session,
-    b: OrderBook,
-    rules: Rules,
-    phase: Phase,
-    money: &mut [u64; 544],
-    pieces: &mut [u64; 544],
-    trades: &mut [u64],
-) -> Carried
-    requires { Ready rules phase money.old pieces.old b }
-    ensures { Carries rules phase money.old pieces.old b trades.old (end_of session) money.new pieces.new trades.new result }
+pub fn end(session: Session, floor: &mut Floor, rules: &Rules, trades: &mut [u64]) -> Answer
+    requires { Ready rules.now floor.old }
+    ensures { Carries rules.now floor.old trades.old (end_of session) floor.new trades.new result }
 {
     if trades.len() < LENT_AT_LEAST {
-        return declined(b, phase, 2);
+        return Answer::from(Refusal::ListTooShort);
     }
-    if !admits_end(phase, session) {
-        return declined(b, phase, 6);
+    if !admits_end(floor.phase, session) {
+        return Answer::from(Refusal::WrongPhase);
     }
-    let book = end_pairing(session, b, rules, money, pieces, trades);
-    Carried {
-        answer: Answer::Done(0, book.filled, 0, book.trades),
-        phase: next_phase(session),
-        book,
-    }
+    let tally = pair_securities(session, floor, rules, trades);
+    free_all(floor, rules);
+    floor.phase = next_phase(session);
+    Answer::Done(0, tally.lots, 0, tally.trades as u64)
 }

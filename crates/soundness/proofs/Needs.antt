@@ -3,7 +3,7 @@ use Prim.Native.Nat.{ℕ, ◌+◌, ◌*◌, ◌≤◌, ◌<◌}
 use native.Mathlib.Omega.{arith}
 use native.Mathlib.Nat.{le_trans, mul-le-mul}
 use mathlib.Core.Path.{◌≡◌, refl, ap, sym, ◌∙◌}
-use mathlib.Core.List.{List, [], ◌∷◌}
+use mathlib.Core.List.{List}
 use mathlib.Core.Bool.{Bool, true, false, cond}
 use lib.Dec.{eqb, lit≤}
 use lib.ListN.{length, get_or, set, drop, replicate, length-set}
@@ -13,7 +13,6 @@ use Rattle.market.specs.declared.Order.{Order}
 use Rattle.market.specs.declared.Listing.{Listing}
 use Rattle.market.specs.declared.Side.{Side}
 use Rattle.market.specs.declared.Side.TheVariants.{Buy, Sell}
-use Rattle.market.specs.declared.State.{State}
 use Rattle.market.specs.declared.Turnover.{Turnover}
 use Rattle.market.specs.Limits.{cells, columns, max_lots, max_price, max_sum}
 use Rattle.market.specs.Tests.{◌=?◌, all_below, sum_of}
@@ -23,18 +22,17 @@ use Rattle.market.specs.declared.Asset.TheVariants.{Money, Pieces}
 use Rattle.market.specs.Day.{Day, columns_of, currency_of, if_money}
 use Rattle.market.specs.View.{first_orders}
 use Rattle.market.specs.Day.{order_at, cell, position, positions, total_limit}
-use Rattle.market.specs.View.{view}
-use Rattle.market.specs.Sound.{blocked_sound, needs_at, order_sound, totals_sound}
+use Rattle.market.specs.Sound.{blocked_sound, needs_at, totals_sound}
 use Rattle.market.specs.Needs.{blocks, column_of, limit_of, need, need_at, of_asset, only, pieces_of, sum_for, with_fee}
 use Rattle.market.specs.Parts.{ListingOk, listing}
 use Rattle.market.proofs.Amounts.{only_same}
 use Rattle.market.proofs.Lists.{same_all}
 use Rattle.market.proofs.Needs.{fee_within, sum_small}
 use Rattle.market.proofs.Logic.{and_true, below_all, below_intro, both}
-use Rattle.soundness.specs.Parts.{Checked, HoldsNeeds, asset_sound, covered_at, column_sound, need_cell}
-use Rattle.soundness.specs.Parts.{lent_day, need_cell_for, waiting_sound}
+use Rattle.soundness.specs.Parts.{HoldsNeeds, asset_sound, covered_at, column_sound, need_cell}
+use Rattle.soundness.specs.Parts.{need_cell_for}
 use Rattle.soundness.proofs.Loops.{same, waiting_at, waiting_end}
-use Rattle.soundness.proofs.Parts.{Reckonable, orders_of}
+use Rattle.soundness.proofs.Parts.{Reckonable}
 
 -- an order needs at most this: a fee is no larger than its sum
 abbrev pub max_need : ℕ
@@ -180,29 +178,3 @@ columns_same x d l h hp hc = same _ _ there back
         below_intro w _ (λ c j. both
         (below_intro n _ (λ p i. needed p c i j ∙ below_all w _ (below_all n _ a.0 p i) c j))
         (below_all w _ a.1 c j))
-
--- what an order needs is read from its listing, and not from how many currencies there are
-column_same : (side : Side) (r q : Rules) (s : ℕ) → listing r s ≡ listing q s → column_of side r s ≡ column_of side q s
-column_same Buy r q s e = ap (λ (l : Listing). l.row.currency) e
-column_same Sell r q s e = refl
-
-need_same : (x : Asset) (r q : Rules) (t : List Turnover) (j : ℕ) (o : Order) → listing r o.security ≡ listing q o.security
-    → need_at x r t j o ≡ need_at x q t j o
-unfolding need_at
-need_same x r q t j o e =
-    rw (column_same o.side r q o.security e, ap (λ (l : Listing). l.row) e, ap (λ (l : Listing). l.rate) e)
-
-needs_same : (x : Asset) (r q : Rules) (t : List Turnover) (j : ℕ) (w : List Order) → ((s : ℕ) → listing r s ≡ listing q s)
-    → sum_of (need_at x r t j) w ≡ sum_of (need_at x q t j) w
-needs_same x r q t j [] e = refl
-needs_same x r q t j (o ∷ w) e = rw (need_same x r q t j o (e o.security), needs_same x r q t j w e)
-
--- what was asked of the orders is known of the day, whatever its positions
-pub orders_checked : (s : State) (money pieces : List ℕ) (answer : Bool) (needs : List ℕ)
-    → Checked (orders_of s) answer needs → Checked (lent_day s money pieces) answer needs
-unfolding waiting_sound order_sound
-orders_checked s money pieces answer needs k = record {
-  right = k.right;
-  added = λ e x j h. k.added e x j h
-      ∙ needs_same x (orders_of s).rules (view s).rules s.turnover j (view s).waiting (λ i. refl);
-}

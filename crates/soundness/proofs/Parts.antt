@@ -1,31 +1,28 @@
 -- What an orderly day is known to hold, and that sound means orderly and covered.
 use Prim.Native.Nat.{ℕ, ◌≤◌, ◌<◌}
 use native.Mathlib.Omega.{arith}
-use mathlib.Core.Path.{◌≡◌, refl, sym}
+use mathlib.Core.Path.{◌≡◌, sym}
 use mathlib.Core.List.{List}
 use mathlib.Core.Bool.{Bool, true, false}
 use lib.ListN.{length}
 use borrow.Author.Tests.{leb-true, le-ltb, lt-ltb, ltb-true}
 use Rattle.market.specs.declared.Order.{Order}
-use Rattle.market.specs.declared.Security.{Security}
-use Rattle.market.specs.declared.State.{State}
 use Rattle.market.specs.declared.Turnover.{Turnover}
-use Rattle.market.specs.Limits.{columns, max_currencies, max_lots, max_participants, max_price, max_securities}
+use Rattle.market.specs.Limits.{columns, max_lots, max_participants, max_price, max_securities}
 use Rattle.market.specs.Limits.{max_waiting}
 use Rattle.market.specs.Tests.{◌and◌, all_of, known}
 use Rattle.market.specs.declared.Rules.{Rules}
 use Rattle.market.specs.declared.Asset.TheVariants.{Money, Pieces}
 use Rattle.market.specs.Day.{Day, currency_of, row, turnover_at}
-use Rattle.market.specs.View.{view}
 use Rattle.market.specs.Parts.{ListingOk, listing}
 use Rattle.market.specs.Codes.{codes_sound, given, numbered, own_rising, rising}
 use Rattle.market.specs.Needs.{limit_of}
-use Rattle.market.specs.Sound.{counts_sound, kind_sound, lots_sound, order_sound, row_sound, rules_sound, security_sound}
+use Rattle.market.specs.Sound.{counts_sound, kind_sound, lots_sound, order_sound, rules_sound}
 use Rattle.market.specs.Sound.{sound, turnover_sound}
-use Rattle.market.proofs.Logic.{and_true, below_all, below_intro, both, never, within_high, within_low}
+use Rattle.market.proofs.Logic.{and_true, below_all, both, never, within_high, within_low}
 use Rattle.market.proofs.Known.{RulesOk, listing_ok, rules_ok_lem}
 use Rattle.market.proofs.Turnovers.{limit_bound, turnover_ok}
-use Rattle.soundness.specs.Parts.{Checked, HoldsNeeds, asset_sound, lent_day, orderly, orders_day, waiting_sound}
+use Rattle.soundness.specs.Parts.{Checked, HoldsNeeds, asset_sound, orderly, waiting_sound}
 use Rattle.soundness.proofs.Loops.{and_none, same}
 
 pub record Orderly (d : Day) : Type 0 where
@@ -120,33 +117,6 @@ module _ (d : Day) (needs : List ℕ) where
   unfolding waiting_sound ◌and◌
   orders_hold e r o h = record { right = rw (sym e, r) (sym o); added = λ t. h }
 
--- where a day is orderly, so it is as far as its orders are asked about
-row_wide : (currencies : ℕ) (l : Security) → currencies ≤ max_currencies → security_sound currencies l ≡ true
-    → security_sound max_currencies l ≡ true
-unfolding row_sound
-row_wide currencies l h e =
-    let whole = and_true e in
-    let a = and_true whole.0 in
-    both (both (lt-ltb l.currency max_currencies (omega (arith, ltb-true l.currency currencies a.0))) a.1) whole.1
-
-abbrev pub orders_of : State → Day
-orders_of s =
-    orders_day s.participants s.securities s.codes s.rate s.phase s.count s.table s.turnover
-    s.orders
-
-pub orders_orderly : (s : State) → orderly (view s) ≡ true → orderly (orders_of s) ≡ true
-unfolding orderly counts_sound
-orders_orderly s e =
-    let y = orderly_holds (view s) e in
-    let a = and_true e in
-    let counts = and_true a.1 in
-    let table = and_true counts.1 in
-    let n = and_true counts.0 in
-    both a.0 (both (both n.0 (both (both refl refl) (and_true n.1).1))
-    (both (below_intro s.securities _ (λ i h. row_wide s.currencies (row (view s).rules i) y.rules.currencies
-    (below_all s.securities (λ j. security_sound s.currencies (row (view s).rules j)) table.0 i h)))
-    table.1))
-
 -- an order of an unknown security, and what is left to ask of one that is known
 pub unknown_security : (d : Day) (o : Order) → d.rules.securities ≤ o.security → order_sound d o ≡ false
 unfolding order_sound ◌and◌
@@ -191,8 +161,3 @@ reckonable d o y e =
       price = limit_bound d.phase (row d.rules s) (turnover_at d.turnover s) o.kind
           (turnover_ok (given d) (turnover_at d.turnover s) (y.turnovers s security)) c.1;
     }
-
--- positions in place of a state's own change nothing of what makes it orderly
-pub orderly_lent : (s : State) (money pieces : List ℕ) → orderly (lent_day s money pieces) ≡ orderly (view s)
-unfolding orderly
-orderly_lent s money pieces = refl

@@ -1,28 +1,16 @@
 -- "Sound means" in the parts that the code asks for in turn, and the cells where it adds needs up.
-use Rattle.std.specs.Prelude.{ℕ, ◌+◌, ◌<◌, List, [], ◌≡◌, Bool, true, get_or, length}
-use Rattle.market.specs.declared.Order.{Order}
-use Rattle.market.specs.declared.Phase.{Phase}
-use Rattle.market.specs.declared.Security.{Security}
+use Rattle.std.specs.Prelude.{ℕ, ◌+◌, ◌<◌, List, ◌≡◌, Bool, true, get_or, length}
 use Rattle.market.specs.declared.Side.{Side}
 use Rattle.market.specs.declared.Side.TheVariants.{Buy, Sell}
-use Rattle.market.specs.declared.State.{State}
-use Rattle.market.specs.declared.Turnover.{Turnover}
-use Rattle.market.specs.Limits.{max_currencies, max_waiting, cells}
+use Rattle.market.specs.Limits.{max_waiting, cells}
 use Rattle.market.specs.Tests.{◌=?◌, ◌and◌, ◌≤?◌, all_below, all_of}
 use Rattle.market.specs.declared.Asset.{Asset}
 use Rattle.market.specs.declared.Asset.TheVariants.{Money, Pieces}
 use Rattle.market.specs.Day.{Day, if_money, row, cell, position, turnover_at}
-use Rattle.market.specs.View.{first_orders}
-use Rattle.market.specs.Day.{with_money, with_pieces}
-use Rattle.market.specs.View.{view}
 use Rattle.market.specs.Codes.{codes_sound, given, own_rising, rising}
 use Rattle.market.specs.Positions.{total_at}
 use Rattle.market.specs.Sound.{blocked_sound, counts_sound, needs_at, order_sound, rate_sound, security_sound, totals_sound}
 use Rattle.market.specs.Sound.{turnover_sound}
-
--- the day of a state with these positions in place of its own
-abbrev pub lent_day : State → List ℕ → List ℕ → Day
-lent_day s money pieces = with_pieces (with_money (view s) money) pieces
 
 -- counts, table, rate, codes, Q and T: each part is asked where the ones before it hold
 unfoldable pub orderly : Day → Bool
@@ -63,24 +51,6 @@ need_cell_for Sell participant currency security = need_cell Pieces (cell partic
 -- the list holds what the waiting orders need of each asset in each cell
 abbrev pub HoldsNeeds : Day → List ℕ → Type 0
 HoldsNeeds d l = (x : Asset) (j : ℕ) → j < cells → get_or l (need_cell x j) 0 ≡ needs_at x d j
-
--- the day as far as its orders are asked about: neither its positions count, nor how many of the currencies it has
-abbrev pub orders_day : ℕ → ℕ → List ℕ → ℕ → Phase → ℕ → List Security → List Turnover → List Order → Day
-orders_day participants securities codes rate phase count table turnover orders = record {
-  rules = record {
-    participants = participants;
-    currencies = max_currencies;
-    securities = securities;
-    table = table;
-    rate = rate;
-  };
-  money = [];
-  pieces = [];
-  waiting = first_orders count orders;
-  codes = codes;
-  phase = phase;
-  turnover = turnover;
-}
 
 -- the answer is whether the waiting orders are sound; where they are, the list holds what they need
 pub record Checked (d : Day) (answer : Bool) (needs : List ℕ) : Type 0 where

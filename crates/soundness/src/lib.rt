@@ -2,23 +2,24 @@
 #![tactic(auto)]
 
 ghost use Rattle.std.specs.Prelude.{◌≡◌, true, ◌+◌, ◌<◌, ◌≤◌, get_or, replicate};
+ghost use Rattle.std.specs.List.{list_all, zip};
 ghost use Rattle.market.specs.Limits.{columns as allColumns, max_codes, max_own_codes, max_participants, max_securities, cells};
 ghost use Rattle.market.specs.Tests.{◌and◌, ◌≤?◌, all_below, known};
 ghost use Rattle.market.specs.Day.{no_security, turnover_at};
-ghost use Rattle.market.specs.View.{view};
+ghost use Rattle.market.specs.View.{day_of};
 ghost use Rattle.market.specs.Sound.{counts_sound, kind_sound, lots_sound, nominal_sound, row_sound, security_sound, sound};
 ghost use Rattle.market.specs.Sound.{offer_sound, turnover_sound};
-ghost use Rattle.soundness.specs.Parts.{Checked, column_sound, lent_day, need_cell_for, orderly, orders_day};
+ghost use Rattle.soundness.specs.Parts.{Checked, column_sound, need_cell_for, orderly};
 
-use amounts::{account_in, cell_of, from_u16, from_u32, need_of, price_sound, within};
+use amounts::{account_in, cell_of, need_of, price_sound, within};
 use codes::given;
 use market::{
-    Asset, Kind, Listing, MAX_CURRENCIES, MAX_LOT, MAX_LOTS, MAX_NOMINAL, MAX_OFFER_RATE,
+    Asset, Floor, Kind, Listing, MAX_CURRENCIES, MAX_LOT, MAX_LOTS, MAX_NOMINAL, MAX_OFFER_RATE,
     MAX_OWN_CODES, MAX_PARTICIPANTS, MAX_PIECES, MAX_PRICE, MAX_RATE, MAX_SECURITIES, MAX_STEP,
-    MAX_TERM, MAX_WAITING, MIN_NOMINAL, MONEY_LIMIT, Order, PIECES_LIMIT, Phase, Security, Side,
-    State, Turnover, lots_of,
+    MAX_TERM, MAX_WAITING, MIN_NOMINAL, MONEY_LIMIT, Order, PIECES_LIMIT, Phase, Rules, Security,
+    Side, Turnover, lots_of,
 };
-use phases::{is_closing, is_open, kept_in};
+use phases::kept_in;
 
 // Needs of pieces stand this many cells behind those of money.
 const CELLS: usize = 272;
@@ -66,21 +67,18 @@ fn security_sound(currencies: u64, row: Security) -> bool
     nominal_sound(row)
 }
 
+fn each_row_sound(currencies: u64, rows: &[Security]) -> bool
+    ensures { result ≡ list_all (security_sound currencies) rows.now }
+{
+    rows.iter().all(|row| security_sound(currencies, *row))
+}
+
 // Every security in range, its nominal too.
 pub fn table_sound(currencies: u64, securities: u64, table: [Security; 16]) -> bool
     requires { securities ≤ max_securities }
     ensures { result ≡ all_below securities (λ s. security_sound currencies (get_or table s no_security)) }
 {
-    let lines = securities as usize;
-    let mut i: usize = 0;
-    while i < lines {
-        let row = table[i];
-        if !security_sound(currencies, row) {
-            return false;
-        }
-        i += 1;
-    }
-    true
+    each_row_sound(currencies, &table[..securities as usize])
 }
 
 fn turnover_sound(codes: u64, turnover: Turnover) -> bool
@@ -96,55 +94,35 @@ fn turnover_sound(codes: u64, turnover: Turnover) -> bool
     turnover.value <= MAX_PRICE * turnover.pieces
 }
 
+fn each_turnover_sound(codes: u64, turnovers: &[Turnover]) -> bool
+    requires { codes ≤ max_codes }
+    ensures { result ≡ list_all (turnover_sound codes) turnovers.now }
+{
+    turnovers
+        .iter()
+        .all(|turnover| turnover_sound(codes, *turnover))
+}
+
+// Q and T of every security in range. The array goes by value: behind a reference no proof knows the length of one of structs.
 fn turnovers_sound(codes: u64, securities: u64, turnovers: [Turnover; 16]) -> bool
     requires { (codes ≤ max_codes) × (securities ≤ max_securities) }
     ensures { result ≡ all_below securities (λ s. turnover_sound codes (turnover_at turnovers s)) }
 {
-    let lines = securities as usize;
-    let mut i: usize = 0;
-    while i < lines {
-        let turnover = turnovers[i];
-        if !turnover_sound(codes, turnover) {
-            return false;
-        }
-        i += 1;
-    }
-    true
+    each_turnover_sound(codes, &turnovers[..securities as usize])
 }
 
 // Is each participant's count of codes within the limit?
-fn codes_sound(participants: u64, codes: [u64; 16]) -> bool
-    requires { participants ≤ max_participants }
-    ensures { result ≡ all_below participants (λ p. get_or codes p 0 ≤? max_own_codes) }
+fn codes_sound(codes: &[u64]) -> bool
+    ensures { result ≡ list_all (λ own. own ≤? max_own_codes) codes.now }
 {
-    let lines = participants as usize;
-    let mut i: usize = 0;
-    while i < lines {
-        let own = codes[i];
-        if MAX_OWN_CODES < own {
-            return false;
-        }
-        i += 1;
-    }
-    true
+    codes.iter().all(|own| *own <= MAX_OWN_CODES)
 }
 
 // Was each participant's last code given to him?
-fn lasts_given(participants: u64, lasts: [u64; 16], codes: [u64; 16]) -> bool
-    requires { participants ≤ max_participants }
-    ensures { result ≡ all_below participants (λ p. get_or lasts p 0 ≤? get_or codes p 0) }
+fn lasts_given(lasts: &[u64], codes: &[u64]) -> bool
+    ensures { result ≡ list_all (λ pair. pair.0 ≤? pair.1) (zip lasts.now codes.now) }
 {
-    let lines = participants as usize;
-    let mut i: usize = 0;
-    while i < lines {
-        let last = lasts[i];
-        let own = codes[i];
-        if own < last {
-            return false;
-        }
-        i += 1;
-    }
-    true
+    lasts.iter().zip(codes).all(|(last, own)| *last <= *own)
 }
 
 // May a repurchase offer wait in this phase, at this price, rate and term?
@@ -152,16 +130,10 @@ fn offer_sound(phase: Phase, row: Security, price: u64, rate: u64, term: u64) ->
     requires { 0 < row.step }
     ensures { result ≡ offer_sound phase row price rate term }
 {
-    if !is_open(phase) {
-        return false;
-    }
-    if !price_sound(row, price) {
-        return false;
-    }
-    if MAX_OFFER_RATE < rate {
-        return false;
-    }
-    within(1, MAX_TERM, term)
+    phase == Phase::Open
+        && price_sound(row, price)
+        && rate <= MAX_OFFER_RATE
+        && within(1, MAX_TERM, term)
 }
 
 // May an order of this kind wait in this phase, at its price, in a security so traded?
@@ -170,20 +142,10 @@ fn kind_sound(phase: Phase, row: Security, turnover: Turnover, kind: Kind) -> bo
     ensures { result ≡ kind_sound phase row turnover kind }
 {
     match kind {
-        Kind::Kept(price) => {
-            if !kept_in(phase) {
-                return false;
-            }
-            price_sound(row, price)
-        }
-        Kind::Closing => {
-            if !is_closing(phase) {
-                return false;
-            }
-            0 < turnover.pieces
-        }
+        Kind::Kept(price) => kept_in(phase) && price_sound(row, price),
+        Kind::Closing => phase == Phase::Closing && 0 < turnover.pieces,
         Kind::Offer(rate, term, price) => {
-            offer_sound(phase, row, price, from_u16(rate), from_u16(term))
+            offer_sound(phase, row, price, u64::from(rate), u64::from(term))
         }
     }
 }
@@ -206,8 +168,7 @@ fn order_sound(
     if !within(1, MAX_LOTS, lots_of(order)) {
         return false;
     }
-    let kind = order.kind;
-    kind_sound(phase, row, turnover, kind)
+    kind_sound(phase, row, turnover, order.kind)
 }
 
 // Where an order's need is added: a buy's money, or a sell's pieces.
@@ -222,39 +183,26 @@ fn need_cell(side: Side, participant: u64, currency: u64, security: u64) -> usiz
 }
 
 // Is each waiting order sound, do their arrivals rise from 1, up to all codes given at most, and each participant's codes from
-// 1, up to his count at most? What each needs is added at its cell in the same pass, so that the orders are copied and read
-// once.
-fn orders_sound(
-    participants: u64,
-    securities: u64,
-    codes: [u64; 16],
-    rate: u64,
-    phase: Phase,
-    count: usize,
-    table: [Security; 16],
-    turnovers: [Turnover; 16],
-    orders: [Order; 128],
-    needs: &mut [u64; 544],
-) -> bool
-    requires { (orderly (orders_day participants securities codes rate phase count table turnovers orders) ≡ true) × (needs.old ≡ replicate (cells + cells) 0) }
-    ensures { Checked (orders_day participants securities codes rate phase count table turnovers orders) result needs.new }
+// 1, up to his count at most? What each needs is added at its cell in the same pass, so that the orders are read once.
+// By place: over a slice of the orders the proof didn't close.
+fn orders_sound(rules: &Rules, floor: &Floor, needs: &mut [u64; 544]) -> bool
+    requires { (orderly (day_of rules.now floor.now) ≡ true) × (needs.old ≡ replicate (cells + cells) 0) }
+    ensures { Checked (day_of rules.now floor.now) result needs.new }
 {
     let mut lasts = [0u64; 16];
     let mut last: u64 = 0;
-    let mut i: usize = 0;
-    while i < count {
-        let order = orders[i];
-        let arrival = from_u32(order.arrival);
+    for i in 0..floor.count {
+        let order = floor.orders[i];
+        let arrival = u64::from(order.arrival);
         if arrival <= last {
             return false;
         }
-        if securities <= order.security {
+        if rules.securities <= order.security {
             return false;
         }
-        let security = order.security as usize;
-        let row = table[security];
-        let turnover = turnovers[security];
-        if !order_sound(participants, phase, row, turnover, order) {
+        let row = rules.table[order.security as usize];
+        let turnover = floor.turnover[order.security as usize];
+        if !order_sound(rules.participants, floor.phase, row, turnover, order) {
             return false;
         }
         let owner = order.participant as usize;
@@ -262,37 +210,37 @@ fn orders_sound(
             return false;
         }
         lasts[owner] = order.code;
-        let side = order.side;
-        let at = need_cell(side, order.participant, row.currency, order.security);
-        let listing = Listing { row, rate };
-        needs[at] = needs[at] + need_of(listing, turnover, order);
+        let at = need_cell(order.side, order.participant, row.currency, order.security);
+        let listing = Listing {
+            row,
+            rate: rules.rate,
+        };
+        needs[at] += need_of(listing, turnover, order);
         last = arrival;
-        i += 1;
     }
-    if given(participants, codes) < last {
+    if given(rules.participants, &floor.codes) < last {
         return false;
     }
-    lasts_given(participants, lasts, codes)
+    let known = rules.participants as usize;
+    lasts_given(&lasts[..known], &floor.codes[..known])
 }
 
-// Is what is blocked in each column what is needed, and the column's total, with the market's account in money, within
-// the limit? No sum is made above it. Column by column in one loop.
-fn positions_sound<'a>(
+// Is what is blocked in this column what is needed, and its total, with the market's account in money, within the limit? No sum
+// is made above it.
+fn column_sound<'a>(
     asset: Asset,
     participants: u64,
-    columns: u64,
+    column: u64,
     limit: u64,
     first: usize,
     positions: &'a [u64; 544],
     needs: &'a [u64; 544],
 ) -> bool
-    requires { (0 < participants) × (participants ≤ max_participants) × (columns ≤ allColumns) × (first ≤ cells) }
-    ensures { result ≡ all_below columns (column_sound asset participants limit first positions.now needs.now) }
+    requires { (participants ≤ max_participants) × (column < allColumns) × (first ≤ cells) }
+    ensures { result ≡ column_sound asset participants limit first positions.now needs.now column }
 {
     let mut total: u64 = 0;
-    let mut p: u64 = 0;
-    let mut column: u64 = 0;
-    while column < columns {
+    for p in 0..participants {
         let at = cell_of(p, column);
         let free = positions[2 * at];
         let blocked = positions[2 * at + 1];
@@ -305,93 +253,88 @@ fn positions_sound<'a>(
         if limit - total - free < blocked {
             return false;
         }
-        total = total + free + blocked;
-        p += 1;
-        if p < participants {
-            continue;
-        }
-        if limit - total < account_in(asset, positions, column) {
+        total += free + blocked;
+    }
+    account_in(asset, positions, column) <= limit - total
+}
+
+// So of each column.
+fn positions_sound<'a>(
+    asset: Asset,
+    participants: u64,
+    columns: u64,
+    limit: u64,
+    first: usize,
+    positions: &'a [u64; 544],
+    needs: &'a [u64; 544],
+) -> bool
+    requires { (participants ≤ max_participants) × (columns ≤ allColumns) × (first ≤ cells) }
+    ensures { result ≡ all_below columns (column_sound asset participants limit first positions.now needs.now) }
+{
+    for column in 0..columns {
+        if !column_sound(asset, participants, column, limit, first, positions, needs) {
             return false;
         }
-        p = 0;
-        total = 0;
-        column += 1;
     }
     true
 }
 
 // All but the waiting orders and the positions. Each part is asked only where the ones before it hold, which bound what
 // it reckons.
-fn is_orderly(s: State) -> bool
-    ensures { result ≡ orderly (view s) }
+fn is_orderly(rules: &Rules, floor: &Floor) -> bool
+    ensures { result ≡ orderly (day_of rules.now floor.now) }
 {
-    let table = s.table;
-    let turnovers = s.turnover;
-    let codes = s.codes;
-    if MAX_WAITING < s.count as u64 {
+    if MAX_WAITING < floor.count as u64 {
         return false;
     }
-    if !counts_sound(s.participants, s.currencies, s.securities) {
+    if !counts_sound(rules.participants, rules.currencies, rules.securities) {
         return false;
     }
-    if !table_sound(s.currencies, s.securities, table) {
+    if !table_sound(rules.currencies, rules.securities, rules.table) {
         return false;
     }
-    if MAX_RATE < s.rate {
+    if MAX_RATE < rules.rate {
         return false;
     }
-    if !codes_sound(s.participants, codes) {
+    if !codes_sound(&floor.codes[..rules.participants as usize]) {
         return false;
     }
-    turnovers_sound(given(s.participants, codes), s.securities, turnovers)
+    turnovers_sound(
+        given(rules.participants, &floor.codes),
+        rules.securities,
+        floor.turnover,
+    )
 }
 
-// Is the state sound with these positions in place of its own? A call that works on a copy of the positions lends it, and
-// the state, of which neither a part is lent nor an element read here, is not copied.
-pub fn lent_sound<'a>(s: State, money: &'a [u64; 544], pieces: &'a [u64; 544]) -> bool
-    ensures { result ≡ sound (lent_day s money.now pieces.now) }
+// Is the day sound?
+pub fn floor_sound(rules: &Rules, floor: &Floor) -> bool
+    ensures { result ≡ sound (day_of rules.now floor.now) }
 {
-    let phase = s.phase;
-    let table = s.table;
-    let turnovers = s.turnover;
-    let orders = s.orders;
-    let codes = s.codes;
     let mut needs = [0u64; 544];
-    if !is_orderly(s) {
+    if !is_orderly(rules, floor) {
         return false;
     }
-    if !orders_sound(
-        s.participants,
-        s.securities,
-        codes,
-        s.rate,
-        phase,
-        s.count,
-        table,
-        turnovers,
-        orders,
-        &mut needs,
-    ) {
+    if !orders_sound(rules, floor, &mut needs) {
         return false;
     }
     if !positions_sound(
         Asset::Money,
-        s.participants,
-        s.currencies,
+        rules.participants,
+        rules.currencies,
         MONEY_LIMIT,
         0,
-        money,
+        &floor.money,
         &needs,
     ) {
         return false;
     }
     positions_sound(
         Asset::Pieces,
-        s.participants,
-        s.securities,
+        rules.participants,
+        rules.securities,
         PIECES_LIMIT,
         CELLS,
-        pieces,
+        &floor.pieces,
         &needs,
     )
 }

@@ -21,15 +21,15 @@ fn read_back(o: Order, lots: u64) -> u64
 
 fn all_lots(rt: &impl Print) {
     let o = sell_order(3, 1, 0, 10, Kind::Kept(95));
-    let mut same: u64 = 0;
-    let mut lots: u64 = 0;
-    while lots <= MAX_LOTS {
-        if read_back(o, lots) == lots {
-            same += 1;
-        }
-        lots += 1;
-    }
-    position(rt, b"lots from 0 on that read back", same, lots);
+    let same = (0..=MAX_LOTS)
+        .filter(|lots| read_back(o, *lots) == *lots)
+        .count();
+    position(
+        rt,
+        b"lots from 0 on that read back",
+        same as u64,
+        MAX_LOTS + 1,
+    );
 }
 
 fn waiting_lots(rt: &impl Print) {
@@ -37,7 +37,7 @@ fn waiting_lots(rt: &impl Print) {
     let s = with_pieces(waiting(o), 16, 0, 100000);
     asked(rt, b"10000 lots wait, sound", s);
     let s = after(rt, b"they are cancelled", cancel(s, 1, 3));
-    position(rt, b"their pieces", s.pieces[32], s.pieces[33]);
+    position(rt, b"their pieces", s.floor.pieces[32], s.floor.pieces[33]);
     let o = arrived(sell_order(3, 1, 0, 65535, Kind::Kept(95)), 3);
     asked(rt, b"65535 lots: 1", with_pieces(waiting(o), 16, 0, 655350));
 }

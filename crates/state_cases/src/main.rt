@@ -43,7 +43,7 @@ fn largest_number(rt: &impl Print) {
     after(
         rt,
         b"the largest number: 7",
-        increase_pieces(day(), 0, 0, 18446744073709551615),
+        increase_pieces(day(), 0, 0, u64::MAX),
     );
 }
 
@@ -55,9 +55,9 @@ fn asked_counts(
     securities: u64,
 ) {
     let mut s = day();
-    s.participants = participants;
-    s.currencies = currencies;
-    s.securities = securities;
+    s.rules.participants = participants;
+    s.rules.currencies = currencies;
+    s.rules.securities = securities;
     asked(rt, label, s);
 }
 
@@ -65,18 +65,12 @@ fn unsound_counts(rt: &impl Print) {
     asked_counts(rt, b"no participants: 1", 0, 2, 2);
     asked_counts(rt, b"17 participants: 1", 17, 2, 2);
     asked_counts(rt, b"5 currencies: 1", 2, 5, 2);
-    asked_counts(
-        rt,
-        b"far too many securities: 1",
-        2,
-        2,
-        18446744073709551615,
-    );
+    asked_counts(rt, b"far too many securities: 1", 2, 2, u64::MAX);
 }
 
 fn asked_line(rt: &impl Print, label: &[u8], currency: u64, lot: u64, step: u64) {
     let mut s = day();
-    s.table[1] = Security {
+    s.rules.table[1] = Security {
         currency,
         lot,
         step,
@@ -93,7 +87,7 @@ fn unsound_lines(rt: &impl Print) {
 
 fn asked_nominal(rt: &impl Print, label: &[u8], nominal: u64) {
     let mut s = day();
-    s.table[1] = bond(nominal);
+    s.rules.table[1] = bond(nominal);
     asked(rt, label, s);
 }
 
@@ -103,19 +97,19 @@ fn nominals(rt: &impl Print) {
     asked_nominal(rt, b"nominal 10000, sound", 10000);
     asked_nominal(rt, b"nominal 500000, sound", 500000);
     asked_nominal(rt, b"nominal 500001: 1", 500001);
-    asked_nominal(rt, b"the largest nominal: 1", 18446744073709551615);
+    asked_nominal(rt, b"the largest nominal: 1", u64::MAX);
 }
 
 fn asked_turnover(rt: &impl Print, label: &[u8], codes: u64, pieces: u64, value: u64) {
     let mut s = with_codes(day(), 1, codes);
-    s.turnover[1] = Turnover { pieces, value };
+    s.floor.turnover[1] = Turnover { pieces, value };
     asked(rt, label, s);
 }
 
 fn unsound_turnover(rt: &impl Print) {
     asked_turnover(rt, b"62500 codes of one participant, sound", 62500, 0, 0);
     asked_turnover(rt, b"62501: 1", 62501, 0, 0);
-    asked_turnover(rt, b"the largest count: 1", 18446744073709551615, 0, 0);
+    asked_turnover(rt, b"the largest count: 1", u64::MAX, 0, 0);
     asked_turnover(
         rt,
         b"more pieces traded than one code can: 1",
@@ -163,14 +157,14 @@ fn kinds_while_open(rt: &impl Print) {
 // The waiting order in a security with a nominal; and a buy of 10 lots at 9950, with this blocked.
 fn asked_percent(rt: &impl Print, label: &[u8], price: u64) {
     let mut s = waiting(sell_order(3, 1, 0, 10, Kind::Kept(price)));
-    s.table[0] = bond(10000);
+    s.rules.table[0] = bond(10000);
     asked(rt, label, s);
 }
 
 fn asked_percent_buy(rt: &impl Print, label: &[u8], blocked: u64) {
     let mut s = with_codes(with_money(day(), 0, 0, blocked), 0, 4);
-    s.table[0] = bond(100001);
-    s.orders[0] = Order {
+    s.rules.table[0] = bond(100001);
+    s.floor.orders[0] = Order {
         code: 3,
         participant: 0,
         side: Side::Buy,
@@ -179,7 +173,7 @@ fn asked_percent_buy(rt: &impl Print, label: &[u8], blocked: u64) {
         security: 0,
         kind: Kind::Kept(9950),
     };
-    s.count = 1;
+    s.floor.count = 1;
     asked(rt, label, s);
 }
 
@@ -222,15 +216,15 @@ fn kinds_while_collecting(rt: &impl Print) {
 // Two orders of 5 lots, of codes 3 and 4.
 fn asked_list(rt: &impl Print, label: &[u8], count: usize) {
     let mut s = waiting(sell_order(3, 1, 0, 5, Kind::Kept(95)));
-    s.orders[1] = sell_order(4, 1, 0, 5, Kind::Kept(95));
-    s.count = count;
+    s.floor.orders[1] = sell_order(4, 1, 0, 5, Kind::Kept(95));
+    s.floor.count = count;
     asked(rt, label, s);
 }
 
 fn lists(rt: &impl Print) {
     asked_list(rt, b"two orders that share what is blocked, sound", 2);
     asked_list(rt, b"129 orders: 1", 129);
-    asked_list(rt, b"far too many orders: 1", 18446744073709551615);
+    asked_list(rt, b"far too many orders: 1", usize::MAX);
 }
 
 fn blocked_pieces(rt: &impl Print) {
@@ -250,25 +244,19 @@ fn asked_money(rt: &impl Print, label: &[u8], place: usize, free: u64, blocked: 
 fn unsound_money(rt: &impl Print) {
     asked_money(rt, b"money blocked for no order: 1", 16, 0, 1);
     asked_money(rt, b"a total above its limit: 1", 17, 1000000000000001, 0);
-    asked_money(
-        rt,
-        b"the largest amounts: 1",
-        17,
-        18446744073709551615,
-        18446744073709551615,
-    );
+    asked_money(rt, b"the largest amounts: 1", 17, u64::MAX, u64::MAX);
 }
 
 fn asked_rate(rt: &impl Print, label: &[u8], rate: u64) {
     let mut s = day();
-    s.rate = rate;
+    s.rules.rate = rate;
     asked(rt, label, s);
 }
 
 fn rates(rt: &impl Print) {
     asked_rate(rt, b"rate 1000, sound", 1000);
     asked_rate(rt, b"rate 1001: 1", 1001);
-    asked_rate(rt, b"the largest rate: 1", 18446744073709551615);
+    asked_rate(rt, b"the largest rate: 1", u64::MAX);
 }
 
 // The market's account stands at 256 + currency, behind the positions of 16 participants.
@@ -284,13 +272,13 @@ fn accounts(rt: &impl Print) {
         b"a unit above it: 1",
         with_money(s, 17, 999999999999996, 0),
     );
-    asked_money(rt, b"the largest account: 1", 257, 18446744073709551615, 0);
+    asked_money(rt, b"the largest account: 1", 257, u64::MAX, 0);
     asked_money(rt, b"blocked behind the account, not read", 257, 0, 7);
     asked_money(
         rt,
         b"an unknown currency's account, not read",
         258,
-        18446744073709551615,
+        u64::MAX,
         7,
     );
 }
@@ -325,9 +313,8 @@ fn pieces_in_the_markets_row(rt: &impl Print) {
 
 // Price and first day of the deal at the list's last place.
 fn last_deal(rt: &impl Print, label: &[u8], s: State) {
-    let records = s.records;
-    let x = records.deals[63];
-    position(rt, label, x.price as u64, x.first as u64);
+    let x = s.records.deals[63];
+    position(rt, label, u64::from(x.price), u64::from(x.first));
 }
 
 fn unread(rt: &impl Print) {
@@ -396,15 +383,14 @@ fn priorities(rt: &impl Print) {
 
 fn unsound_order(rt: &impl Print) {
     let mut s = funded();
-    s.participants = 0;
+    s.rules.participants = 0;
     bought(rt, b"unsound: 1", s);
 }
 
 fn linked_reserves() -> State {
     let o = increase_pieces(day(), 0, 0, 100);
     let o = increase_money(o.state, 1, 0, 10000);
-    let o = increase_pieces(o.state, 1, 1, 100);
-    o.state
+    increase_pieces(o.state, 1, 1, 100).state
 }
 
 // Participant 0 has 100 pieces of security 0; participant 1 buys 10 lots of it at 100 and sells 10 of security 1 at 95.
@@ -480,7 +466,7 @@ fn linked_pair(rt: &impl Print, label: &[u8], s: State) {
 
 fn group_codes(rt: &impl Print) {
     let mut s = linked_day();
-    s.currencies = 0;
+    s.rules.currencies = 0;
     linked_pair(rt, b"unsound: 1", s);
     let s = linked_day();
     linked_pair(rt, b"the last two codes", with_codes(s, 0, 62498));
@@ -498,7 +484,7 @@ fn group_codes(rt: &impl Print) {
     linked_pair(
         rt,
         b"a group beside counts past the participants",
-        with_counts_past(s, 18446744073709551615),
+        with_counts_past(s, u64::MAX),
     );
 }
 
@@ -521,8 +507,7 @@ fn turned_over() -> State {
 }
 
 fn closing() -> State {
-    let o = start_closing(turned_over());
-    o.state
+    start_closing(turned_over()).state
 }
 
 // A closing buy of participant 0.
@@ -555,7 +540,7 @@ fn last_closing_codes(rt: &impl Print) {
     let s = with_codes(closing(), 0, 62499);
     let s = closing_buy(rt, b"the last code", s, 0, 1);
     closing_buy(rt, b"one more: 13", s, 0, 1);
-    let s = with_counts_past(closing(), 18446744073709551615);
+    let s = with_counts_past(closing(), u64::MAX);
     let s = closing_buy(rt, b"beside counts past the participants", s, 0, 1);
     counts(rt, b"codes given", s);
 }
@@ -563,7 +548,7 @@ fn last_closing_codes(rt: &impl Print) {
 fn unsound_session(rt: &impl Print) {
     let mut trades = [0u64; 1088];
     let mut s = turned_over();
-    s.count = 129;
+    s.floor.count = 129;
     after(rt, b"start of an unsound state: 1", start_closing(s));
     after(
         rt,
@@ -577,10 +562,10 @@ fn unsound_session(rt: &impl Print) {
 fn closing_near_the_limit(rt: &impl Print, label: &[u8], traded: u64) {
     let o = increase_money(closing(), 0, 0, 10000000);
     let mut s = o.state;
-    s.participants = 16;
-    s.codes = [62500; 16];
-    s.codes[0] = 62499;
-    s.turnover[0] = Turnover {
+    s.rules.participants = 16;
+    s.floor.codes.fill(62500);
+    s.floor.codes[0] = 62499;
+    s.floor.turnover[0] = Turnover {
         pieces: 9999990000000,
         value: traded,
     };
@@ -607,7 +592,7 @@ fn largest_closing() -> State {
     let o = increase_pieces(o.state, 1, 0, 10000000);
     let o = start_closing(o.state);
     let mut s = with_codes(o.state, 0, 1);
-    s.turnover[0] = Turnover {
+    s.floor.turnover[0] = Turnover {
         pieces: 10000000,
         value: 10000000000000,
     };
@@ -629,14 +614,13 @@ fn largest_trade(rt: &impl Print) {
 fn unsound_collecting(rt: &impl Print) {
     let mut trades = [0u64; 1088];
     let mut s = funded();
-    s.count = 129;
+    s.floor.count = 129;
     after(rt, b"start of collecting: 1", start_collecting(s));
     after(rt, b"end of collecting: 1", end_collecting(s, &mut trades));
 }
 
 fn collecting() -> State {
-    let o = start_collecting(funded());
-    o.state
+    start_collecting(funded()).state
 }
 
 fn collecting_codes(rt: &impl Print) {
@@ -659,7 +643,7 @@ fn collecting_codes(rt: &impl Print) {
 fn collected() -> State {
     let s = kept(collecting(), 1, sell(0, 95, 10));
     let mut s = kept(s, 0, buy(0, 100, 20));
-    s.turnover[0] = Turnover {
+    s.floor.turnover[0] = Turnover {
         pieces: 10,
         value: 950,
     };
@@ -677,7 +661,7 @@ fn one_auction(rt: &impl Print) {
     numbers(rt, b"its trade", &trades, 0);
     numbers(rt, b"the numbers after it", &trades, 8);
     money(rt, b"free and blocked money of the buyer", s, 0);
-    let t = s.turnover[0];
+    let t = s.floor.turnover[0];
     position(rt, b"Q and T stay", t.pieces, t.value);
 }
 
@@ -685,8 +669,7 @@ fn one_auction(rt: &impl Print) {
 fn paired() -> State {
     let o = enter_closing_order(closing(), 0, Side::Buy, 0, 3);
     let o = enter_closing_order(o.state, 0, Side::Buy, 0, 4);
-    let o = enter_closing_order(o.state, 1, Side::Sell, 0, 5);
-    o.state
+    enter_closing_order(o.state, 1, Side::Sell, 0, 5).state
 }
 
 fn two_pairs(rt: &impl Print) {
@@ -704,13 +687,9 @@ fn full() -> State {
     let o = increase_money(closing(), 0, 0, 1000000);
     let o = increase_pieces(o.state, 1, 0, 10000);
     let mut s = o.state;
-    let mut i: u64 = 0;
-    while i < 64 {
+    for _ in 0..64 {
         let o = enter_closing_order(s, 0, Side::Buy, 0, 1);
-        let o = enter_closing_order(o.state, 1, Side::Sell, 0, 1);
-        let t = o.state;
-        s = t;
-        i += 1;
+        s = enter_closing_order(o.state, 1, Side::Sell, 0, 1).state;
     }
     s
 }

@@ -18,8 +18,8 @@ fn five(code: u64, participant: u64, arrival: u32) -> Order {
 // Two orders of participant 1, who has 4 codes of 9 given in all.
 fn asked_numbers(rt: &impl Print, label: &[u8], first: u64, second: u64, older: u32, younger: u32) {
     let mut s = with_codes(waiting(five(first, 1, older)), 0, 5);
-    s.orders[1] = five(second, 1, younger);
-    s.count = 2;
+    s.floor.orders[1] = five(second, 1, younger);
+    s.floor.count = 2;
     asked(rt, label, s);
 }
 
@@ -30,7 +30,7 @@ fn arrivals(rt: &impl Print) {
     asked_numbers(rt, b"one arrival of two orders: 1", 3, 4, 8, 8);
     asked_numbers(rt, b"arrivals that fall: 1", 3, 4, 9, 8);
     asked_numbers(rt, b"an arrival above all codes: 1", 3, 4, 8, 10);
-    asked_numbers(rt, b"the largest arrival: 1", 3, 4, 8, 4294967295);
+    asked_numbers(rt, b"the largest arrival: 1", 3, 4, 8, u32::MAX);
 }
 
 fn codes_of_one(rt: &impl Print) {
@@ -39,16 +39,15 @@ fn codes_of_one(rt: &impl Print) {
     asked_numbers(rt, b"one code of two orders: 1", 3, 3, 8, 9);
     asked_numbers(rt, b"codes that fall: 1", 4, 3, 8, 9);
     asked_numbers(rt, b"a code above his count, not above all: 1", 3, 5, 8, 9);
-    let n: u64 = 18446744073709551615;
-    asked_numbers(rt, b"the largest code: 1", 3, n, 8, 9);
+    asked_numbers(rt, b"the largest code: 1", 3, u64::MAX, 8, 9);
 }
 
 // An order of participant 1, who has 4 codes, then one of participant 0, who has 5.
 fn asked_two(rt: &impl Print, label: &[u8], first: u64, second: u64, older: u32, younger: u32) {
     let s = with_pieces(waiting(five(first, 1, older)), 16, 0, 50);
     let mut s = with_codes(with_pieces(s, 0, 0, 50), 0, 5);
-    s.orders[1] = five(second, 0, younger);
-    s.count = 2;
+    s.floor.orders[1] = five(second, 0, younger);
+    s.floor.count = 2;
     asked(rt, label, s);
 }
 
@@ -72,9 +71,9 @@ fn codes_of_two(rt: &impl Print) {
 fn asked_around(rt: &impl Print, label: &[u8], third: u64) {
     let s = with_pieces(waiting(five(3, 1, 7)), 0, 0, 50);
     let mut s = with_codes(s, 0, 5);
-    s.orders[1] = five(1, 0, 8);
-    s.orders[2] = five(third, 1, 9);
-    s.count = 3;
+    s.floor.orders[1] = five(1, 0, 8);
+    s.floor.orders[2] = five(third, 1, 9);
+    s.floor.count = 3;
     asked(rt, label, s);
 }
 
@@ -87,7 +86,7 @@ fn codes_around_another(rt: &impl Print) {
 // Q where participant 0 has 2 codes and participant 1 has 3; T is the same.
 fn asked_pieces(rt: &impl Print, label: &[u8], pieces: u64) {
     let mut s = with_codes(with_codes(day(), 0, 2), 1, 3);
-    s.turnover[1] = Turnover {
+    s.floor.turnover[1] = Turnover {
         pieces,
         value: pieces,
     };
@@ -105,7 +104,7 @@ fn pieces_of_all_codes(rt: &impl Print) {
 
 // What stands past the participants is neither read nor changed, the largest numbers too.
 fn orders_beside_counts_past(rt: &impl Print) {
-    let s = with_counts_past(funded(), 18446744073709551615);
+    let s = with_counts_past(funded(), u64::MAX);
     let s = after(
         rt,
         b"an order beside counts past the participants",
@@ -146,7 +145,7 @@ fn asked_arrival(rt: &impl Print, label: &[u8], arrival: u32, past: u64) {
 // Counts past the participants do not widen what all codes allow.
 fn bounds_beside_counts_past(rt: &impl Print) {
     let mut s = with_codes(with_counts_past(day(), 5), 1, 1);
-    s.turnover[1] = Turnover {
+    s.floor.turnover[1] = Turnover {
         pieces: 10000001,
         value: 10000001,
     };
@@ -157,7 +156,7 @@ fn bounds_beside_counts_past(rt: &impl Print) {
         rt,
         b"arrival 4 of 4, the largest counts past, sound",
         4,
-        18446744073709551615,
+        u64::MAX,
     );
     after(
         rt,
@@ -229,15 +228,14 @@ fn last_code_dropped(rt: &impl Print) {
 
 // 16 participants with all their codes.
 fn a_million() -> State {
-    let o = opening(16, 2, 2, table(), 0, 0);
-    let mut s = o.state;
-    s.codes = [62500; 16];
+    let mut s = opening(16, 2, 2, table(), 0, 0).state;
+    s.floor.codes.fill(62500);
     s
 }
 
 fn asked_million(rt: &impl Print, label: &[u8], pieces: u64, value: u64) {
     let mut s = a_million();
-    s.turnover[1] = Turnover { pieces, value };
+    s.floor.turnover[1] = Turnover { pieces, value };
     asked(rt, label, s);
 }
 
@@ -256,8 +254,8 @@ fn million_turnover(rt: &impl Print) {
 fn asked_late(rt: &impl Print, label: &[u8], arrival: u32) {
     let o = sell_order(62500, 1, 0, 10, Kind::Kept(95));
     let mut s = with_pieces(a_million(), 16, 0, 100);
-    s.orders[0] = arrived(o, arrival);
-    s.count = 1;
+    s.floor.orders[0] = arrived(o, arrival);
+    s.floor.count = 1;
     asked(rt, label, s);
 }
 
@@ -270,20 +268,11 @@ fn million_arrivals(rt: &impl Print) {
     after(rt, b"one more: 13", order(s, 15, buy(0, 5, 1)));
 }
 
-fn four_orders(rt: &impl Print, a: u64, b: u64, c: u64, d: u64) {
-    let s = a_million();
-    let t = buy(0, 5, 1);
-    after(rt, b"each of 16: 13", order(s, a, t));
-    after(rt, b"each of 16: 13", order(s, b, t));
-    after(rt, b"each of 16: 13", order(s, c, t));
-    after(rt, b"each of 16: 13", order(s, d, t));
-}
-
 fn everybody(rt: &impl Print) {
-    four_orders(rt, 0, 1, 2, 3);
-    four_orders(rt, 4, 5, 6, 7);
-    four_orders(rt, 8, 9, 10, 11);
-    four_orders(rt, 12, 13, 14, 15);
+    let s = a_million();
+    for participant in 0..16 {
+        after(rt, b"each of 16: 13", order(s, participant, buy(0, 5, 1)));
+    }
 }
 
 // Participant 0 meets 7 lots of two orders: all of the older, though its code is 4 and the younger's 2.
@@ -303,8 +292,7 @@ fn older_in_auction(rt: &impl Print, label: &[u8], side: Side, t: Ticket) {
 fn older_at_closing(rt: &impl Print, label: &[u8], side: Side, t: Ticket) {
     let mut trades = [7u64; 1088];
     let s = aged(4, side, Kind::Closing, Phase::Closing);
-    let counter = t.side;
-    let o = enter_closing_order(s, 0, counter, t.security, t.lots);
+    let o = enter_closing_order(s, 0, t.side, t.security, t.lots);
     after(rt, label, end_session(o.state, &mut trades));
     numbers(rt, label, &trades, 0);
     numbers(rt, b"the next 8 numbers", &trades, 8);

@@ -2,20 +2,13 @@
 // where it stands, and anything else is said on standard error and ends the reading or writing.
 #![tactic(auto)]
 
-ghost use Rattle.std.specs.Prelude.{◌≤◌, ◌≡◌, length, take};
+ghost use Rattle.std.specs.Prelude.{◌<◌, ◌≤◌, ◌≡◌, IfSome, length, take};
 ghost use Rattle.streams.specs.Fits.{Fits, More};
 
 use std::io::{Error, ErrorKind, Read, Write};
 use std::rt::Clock;
 use std::time::Duration;
 use std::{str, thread};
-
-// How many bytes were read into a buffer; `Failed` where standard error says why they are not the whole input.
-#[derive(Drop)]
-pub enum Input {
-    Read(usize),
-    Failed,
-}
 
 // A pause is a millisecond: a stream on which nothing moves for about five minutes is given up, since every function ends.
 const PAUSES: u32 = 300_000;
@@ -57,24 +50,27 @@ fn give_up(rt: &impl Eprint, name: &str) {
     let _ = eprintln!(rt; "{name}: nothing moved for five minutes");
 }
 
-// One read; 0 bytes: the input is at its end.
-fn read_some<R: Clock + Eprint, F: Read>(rt: &R, file: &mut F, name: &str, buf: &mut [u8]) -> Input
+// One read: how many bytes there are, with 0 at the input's end; `None` where standard error says why there are none.
+fn read_some<R: Clock + Eprint, F: Read>(
+    rt: &R,
+    file: &mut F,
+    name: &str,
+    buf: &mut [u8],
+) -> Option<usize>
     ensures { Fits result buf.new }
 {
-    let mut pauses = PAUSES;
-    while pauses > 0 {
+    for _ in 0..PAUSES {
         match file.read(buf) {
-            Ok(n) => return Input::Read(n),
+            Ok(n) => return Some(n),
             Err(error) => {
                 if !goes_on(rt, name, &error) {
-                    return Input::Failed;
+                    return None;
                 }
             }
         }
-        pauses -= 1;
     }
     give_up(rt, name);
-    Input::Failed
+    None
 }
 
 // One read into buf from `from` on; what stands before it stays.
@@ -84,7 +80,7 @@ fn read_on<R: Clock + Eprint, F: Read>(
     name: &str,
     buf: &mut [u8],
     from: usize,
-) -> Input
+) -> Option<usize>
     requires { from ≤ length buf.old }
     ensures more { More result from buf.new }
     ensures buf_unchanged { take from buf.new ≡ take from buf.old }
@@ -92,65 +88,60 @@ fn read_on<R: Clock + Eprint, F: Read>(
     read_some(rt, file, name, &mut buf[from..])
 }
 
-// Reads until buf is full or the input ends.
+// Reads until buf is full or the input ends: how many bytes that are; `None` where standard error says why they are not the
+// whole input.
 pub fn read_whole<R: Clock + Eprint, F: Read>(
     rt: &R,
     file: &mut F,
     name: &str,
     buf: &mut [u8],
-) -> Input
+) -> Option<usize>
     ensures { Fits result buf.new }
 {
     let mut done = 0;
     while done < buf.len() {
-        let Input::Read(n) = read_on(rt, file, name, buf, done) else {
-            return Input::Failed;
-        };
+        let n = read_on(rt, file, name, buf, done)?;
         if n == 0 {
             break;
         }
         done += n;
     }
-    Input::Read(done)
+    Some(done)
 }
 
-// One write; 0 bytes: it failed.
-fn write_some<R: Clock + Eprint, W: Write>(rt: &R, file: &mut W, name: &str, bytes: &[u8]) -> usize
-    ensures { result ≤ length bytes.now }
+// One write: how many bytes went through; `None` where standard error says why none did. Not one loop with `read_some`: there
+// 0 bytes are the end, here they are tried again.
+fn write_some<R: Clock + Eprint, W: Write>(
+    rt: &R,
+    file: &mut W,
+    name: &str,
+    bytes: &[u8],
+) -> Option<usize>
+    ensures { IfSome result (λ n. (0 < n) × (n ≤ length bytes.now)) }
 {
-    let mut pauses = PAUSES;
-    while pauses > 0 {
+    for _ in 0..PAUSES {
         match file.write(bytes) {
             Ok(0) => pause(rt),
-            Ok(put) => return put,
+            Ok(put) => return Some(put),
             Err(error) => {
                 if !goes_on(rt, name, &error) {
-                    return 0;
+                    return None;
                 }
             }
         }
-        pauses -= 1;
     }
     give_up(rt, name);
-    0
+    None
 }
 
-// Writes the first n bytes to standard output, and answers whether all of them went through.
-pub fn write_first<R: Clock + Eprint, W: Write>(
-    rt: &R,
-    file: &mut W,
-    bytes: &[u8],
-    n: usize,
-) -> bool
-    requires { n ≤ length bytes.now }
-{
-    let mut done = 0;
-    while done < n {
-        let put = write_some(rt, file, "standard output", &bytes[done..n]);
-        if put == 0 {
+// Writes the bytes to standard output, and answers whether all of them went through: why not is said already.
+pub fn write_whole<R: Clock + Eprint, W: Write>(rt: &R, file: &mut W, bytes: &[u8]) -> bool {
+    let mut left = bytes;
+    while !left.is_empty() {
+        let Some(put) = write_some(rt, file, "standard output", left) else {
             return false;
-        }
-        done += put;
+        };
+        left = &left[put..];
     }
     true
 }

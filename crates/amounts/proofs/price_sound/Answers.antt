@@ -1,21 +1,13 @@
 -- `amounts::price_sound` meets its contract: the range is tested first, then the step.
-use Prim.Native.Nat.{ℕ}
-use mathlib.Core.Path.{◌≡◌, ap, ◌∙◌}
-use Rattle.market.specs.Tests.{◌and◌, within}
-use Rattle.market.specs.Sound.{price_sound, top_price}
-use Rattle.amounts.proofs.Answers.{fails, holds}
+use mathlib.Core.Path.{sym}
+use Rattle.market.specs.Tests.{◌and◌}
+use Rattle.market.specs.Sound.{price_sound}
 use Rattle.amounts.proofs.price_sound.Goals as goal
-use Rattle.amounts.proofs.price_sound.Goals.{After-within}
 
--- the range is that of the definition
-at_top : (c : After-within)
-    → c.within.result ≡ within 1 (top_price c.args.row) c.args.price
-at_top c = c.within.ensures ∙ ap (λ (top : ℕ). within 1 top c.args.price) c.top_price.ensures
-
-pub returns-then-not-within : goal.returns-then-not-within
+pub returns-then-within : goal.returns-then-within
 unfolding price_sound ◌and◌
-returns-then-not-within c = rw (fails (at_top c.before) c.if-not-within.true)
+returns-then-within c = rw (sym c.top_price.ensures, sym c.within.ensures, c.if-within.true)
 
-pub returns : goal.returns
+pub returns-else-within : goal.returns-else-within
 unfolding price_sound ◌and◌
-returns c = rw (holds (at_top c.before.before) c.if-not-within.false)
+returns-else-within c = rw (sym c.top_price.ensures, sym c.within.ensures, c.if-within.false)

@@ -1,51 +1,17 @@
--- `auction::lay_out` meets its contract: the orders passed stand on the ladder.
-use native.Mathlib.Omega.{arith}
-use Rattle.auction.proofs.Ladder.{laying_ends, laying_next, laying_starts}
+-- `auction::lay_out` meets its contract: an order's rung stands behind those of the orders before it.
+use Rattle.std.proofs.Common.{arith, ap, length}
+use Rattle.std.proofs.Math.ListN.{length-set}
+use Rattle.auction.proofs.Ladder.{laid_next, laid_same}
+use Rattle.auction.proofs.lay_out.Goals.{in-Some, in_default}
 use Rattle.auction.proofs.lay_out.Goals as goal
 
-pub loop-i-init : goal.loop-i-init
-loop-i-init c = laying_starts c.requires.0
-
-pub offset_bounds-book-i : goal.offset_bounds-book-i
-offset_bounds-book-i c = omega (arith, c.requires.1.room)
-
-pub bounds-book-i : goal.bounds-book-i
-bounds-book-i c = omega (arith, c.requires.1.room)
-
-pub overflow_mul-at : goal.overflow_mul-at
-overflow_mul-at c = omega (arith, c.requires.1.room)
-
-pub offset_bounds-ladder-at : goal.offset_bounds-ladder-at
-offset_bounds-ladder-at c = omega (arith, c.requires.1.room)
-
-pub bounds-ladder-at : goal.bounds-ladder-at
-bounds-ladder-at c = omega (arith, c.requires.1.room)
-
-pub overflow_add-ladder : goal.overflow_add-ladder
-overflow_add-ladder c = omega (arith, c.requires.1.room)
-
-pub offset_bounds-ladder-at-in-loop-i : goal.offset_bounds-ladder-at-in-loop-i
-offset_bounds-ladder-at-in-loop-i c = omega (arith, c.requires.1.room)
-
-pub bounds-ladder-at-in-loop-i : goal.bounds-ladder-at-in-loop-i
-bounds-ladder-at-in-loop-i c = omega (arith, c.requires.1.room)
-
-pub overflow_add-ladder-in-loop-i : goal.overflow_add-ladder-in-loop-i
-overflow_add-ladder-in-loop-i c = omega (arith, c.requires.1.room)
-
-pub offset_bounds-ladder-at-in-loop-i-2 : goal.offset_bounds-ladder-at-in-loop-i-2
-offset_bounds-ladder-at-in-loop-i-2 c = omega (arith, c.requires.1.room)
-
-pub bounds-ladder-at-in-loop-i-2 : goal.bounds-ladder-at-in-loop-i-2
-bounds-ladder-at-in-loop-i-2 c = omega (arith, c.requires.1.room)
-
-pub overflow_add-i : goal.overflow_add-i
-overflow_add-i c = omega (arith, c.requires.1.room)
-
-pub loop-i-preserved : goal.loop-i-preserved
-loop-i-preserved c =
-    laying_next c.loop-i.invariant c.rung_of-rung.result c.requires.1.room c.loop-i-test.true
-    c.rung_of-rung.ensures
-
-pub returns : goal.returns
-returns c = laying_ends c.loop-i.invariant c.loop-i-test.false c.requires.1
+pub loop-o-preserved : goal.loop-o-preserved
+loop-o-preserved c =
+    let k = c.loop-o.invariant in
+    let h = c.loop-o-test.true in
+    elim c.match-rung_of.branch [
+      | in-Some w ↦
+          let long = simp length-set at (ap length w.ladder-is) in
+          (omega arith, rw (w.count-is, w.ladder-is) (laid_next _ _ _ _ _ h k.1 (omega arith) w.in-Some.ensures))
+      | in_default w ↦ (omega arith, rw (w.count-is, w.ladder-is) (laid_same _ _ _ _ _ h k.1 w.in_default.ensures))
+    ]

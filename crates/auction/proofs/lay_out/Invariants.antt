@@ -1,10 +1,7 @@
--- `auction::lay_out` meets its contract: the orders passed stand on the ladder.
-use Prim.Native.Nat.{◌-◌}
-use Rattle.auction.proofs.Ladder.{Laying}
+-- `auction::lay_out` meets its contract: the rungs of the orders passed stand first on the ladder.
+use Rattle.std.proofs.Common.{◌≡◌, ◌≤◌, take}
+use Rattle.auction.specs.Ladder.{rungs_of}
 use Rattle.auction.proofs.lay_out.Given as goal
 
-abbrev pub invariant-loop-i : goal.invariant-loop-i
-invariant-loop-i l = Laying l.ladder l.count l.book.orders l.security l.i
-
-abbrev pub decreases-loop-i : goal.decreases-loop-i
-decreases-loop-i l = l.count - l.i
+abbrev pub invariant-loop-o : goal.invariant-loop-o
+invariant-loop-o l = (l.count ≤ l.o-index) × (take l.count l.ladder ≡ rungs_of l.security (take l.o-index l.orders))

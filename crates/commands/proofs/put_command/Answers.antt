@@ -6,12 +6,10 @@ use Rattle.printing.proofs.Buffer.{puts_then}
 use Rattle.commands.proofs.Placing.{puts_refused, trades_fit}
 use Rattle.commands.proofs.put_command.Goals as goal
 
-pub put_trades-requires : goal.put_trades-requires
-put_trades-requires c =
-    let fit =
-    trades_fit c.args.trades.now c.args.line c.args.answer _ (ap (λ (a : Answer). (numbers_of a).trades) c.in-Done.is)
-    c.requires.answer_bound c.requires.trades_len c.requires.room_in_bounds c.put_answer-end.ensures in
-    record { numbers_per_trade_in_bounds = fit.0; numbers_per_trade_in_bounds_2 = fit.1 }
+pub put_trades-requires-clause-numbers_per_trade_in_bounds_2 : goal.put_trades-requires-clause-numbers_per_trade_in_bounds_2
+put_trades-requires-clause-numbers_per_trade_in_bounds_2 c =
+    trades_fit c.args.line c.args.answer _ (ap (λ (a : Answer). (numbers_of a).trades) c.in-Done.is)
+    c.requires.answer_bound c.requires.room_in_bounds c.put_answer-end.ensures
 
 pub returns-in-Refused : goal.returns-in-Refused
 returns-in-Refused c =

@@ -11,5 +11,5 @@ returns-then-text-gt-MAX_TEXT c =
 
 pub returns : goal.returns
 returns c =
-    begins_headed c.if-out-lt-ROOM.false c.if-text-gt-MAX_TEXT.false c.heading_of-heading.ensures c.put_answer-filled.ensures
+    begins_headed c.if-out-lt-ROOM.false c.if-text-gt-MAX_TEXT.false c.heading_of-heading.ensures c.put_answer.ensures
     c.is_done.result c.is_done.ensures

@@ -6,4 +6,4 @@ use Rattle.dayfile.proofs.ended.Goals as goal
 
 pub returns : goal.returns
 unfolding opened_ledger
-returns c = (refl, refl, ap (λ (l : Ledger). l.day) c.refused_opening-outcome.ensures.state)
+returns c = (refl, refl, ap (λ (l : Ledger). l.day) c.refused_opening.ensures.state)

@@ -7,25 +7,11 @@ use Rattle.dayfile.proofs.whole_day.Goals as goal
 pub returns-then-first : goal.returns-then-first
 returns-then-first c = prints_over c.begin-first.ensures c.if-first.true
 
-pub overflow_sub-out : goal.overflow_sub-out
-overflow_sub-out c =
-    let begins = c.begin-first.ensures in
-    omega (arith, begins_room begins c.if-first.false, begins.size)
-
 pub returns-then-out-first : goal.returns-then-out-first
 returns-then-out-first c =
     let begins = c.begin-first.ensures in
     prints_none begins c.if-first.false
     (omega (arith, c.if-out-first.true, begins_room begins c.if-first.false, begins.size))
-
-pub resume-last-requires : goal.resume-last-requires
-resume-last-requires c =
-    let begins = c.begin-first.ensures in
-    record {
-      going = begins.going c.if-first.false;
-      over_value = c.if-first.false;
-      room_in_bounds = omega (arith, c.if-out-first.false, begins_room begins c.if-first.false, begins.size);
-    }
 
 pub returns-then-not-last : goal.returns-then-not-last
 returns-then-not-last c =

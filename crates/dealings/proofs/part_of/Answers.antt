@@ -21,46 +21,42 @@ first_is r d {security} {lots} {price} s l p e =
     ∙ ap (λ (n : ℕ). sum_for (row r d.security) n lots) p
     ∙ ap (λ (n : ℕ). sum_for (row r d.security) d.price n) l
 
-pub offset_bounds-table-security : goal.offset_bounds-table-security
-offset_bounds-table-security c =
-    omega (arith, c.from_u8-security.ensures, (deal_ok c.args.rules c.args.deal c.requires.1).security, c.requires.0.securities)
-
-pub bounds-table-security : goal.bounds-table-security
-bounds-table-security c =
-    omega (arith, c.from_u8-security.ensures, (deal_ok c.args.rules c.args.deal c.requires.1).security, c.requires.0.securities)
+pub bounds-rules-security : goal.bounds-rules-security
+bounds-rules-security c =
+    omega (arith, c.from-security.ensures, (deal_ok c.args.rules.now c.args.deal c.requires.1).security, c.requires.0.securities)
 
 pub sum_for-sum-requires : goal.sum_for-sum-requires
 sum_for-sum-requires c =
     let ok = c.requires.0 in
-    let d = deal_ok c.args.rules c.args.deal c.requires.1 in
-    rw c.from_u8-security.ensures (
+    let d = deal_ok c.args.rules.now c.args.deal c.requires.1 in
+    rw c.from-security.ensures (
       ok.lot _ d.security,
       ok.nominal _ d.security,
-      omega (arith, c.from_u32.ensures, (price_bounds _ _ d.price).1),
-      omega (arith, c.from_u16-lots.ensures, d.top),
+      omega (arith, c.from.ensures, (price_bounds _ _ d.price).1),
+      omega (arith, c.from-lots.ensures, d.top),
     )
 
 pub overflow_add-result : goal.overflow_add-result
 overflow_add-result c =
-    omega (arith, c.from_u16-term.ensures, c.from_u32-first.ensures, (deal_ok c.args.rules c.args.deal c.requires.1).due)
+    omega (arith, c.from-term.ensures, c.from-first.ensures, (deal_ok c.args.rules.now c.args.deal c.requires.1).due)
 
 pub pieces_of-requires : goal.pieces_of-requires
 pieces_of-requires c =
-    let d = deal_ok c.args.rules c.args.deal c.requires.1 in
-    rw c.from_u8-security.ensures (c.requires.0.lot _ d.security, omega (arith, c.from_u16-lots.ensures, d.top))
+    let d = deal_ok c.args.rules.now c.args.deal c.requires.1 in
+    rw c.from-security.ensures (c.requires.0.lot _ d.security, omega (arith, c.from-lots.ensures, d.top))
 
 pub second_sum-requires : goal.second_sum-requires
 second_sum-requires c =
-    let d = deal_ok c.args.rules c.args.deal c.requires.1 in (
-      omega (arith, (first_is c.args.rules c.args.deal c.from_u8-security.ensures c.from_u16-lots.ensures c.from_u32.ensures c.sum_for-sum.ensures), d.sum),
-      omega (arith, c.from_u16.ensures, d.rate),
-      omega (arith, c.from_u16-term.ensures, d.longest),
-      omega (arith, c.from_u16-term.ensures, c.from_u32-first.ensures, d.due),
+    let d = deal_ok c.args.rules.now c.args.deal c.requires.1 in (
+      omega (arith, (first_is c.args.rules.now c.args.deal c.from-security.ensures c.from-lots.ensures c.from.ensures c.sum_for-sum.ensures), d.sum),
+      omega (arith, c.from-4.ensures, d.rate),
+      omega (arith, c.from-term.ensures, d.longest),
+      omega (arith, c.from-term.ensures, c.from-first.ensures, d.due),
     )
 
 pub returns : goal.returns
 returns c =
     let a = c.args in
-    part_is a.rules a.deal c.from_u8.ensures c.from_u8-2.ensures c.from_u8-security.ensures c.from_u16-lots.ensures
-    c.from_u32-first.ensures c.from_u16-term.ensures c.from_u16.ensures (first_is c.args.rules c.args.deal c.from_u8-security.ensures c.from_u16-lots.ensures c.from_u32.ensures c.sum_for-sum.ensures)
+    part_is a.rules.now a.deal c.from-2.ensures c.from-3.ensures c.from-security.ensures c.from-lots.ensures
+    c.from-first.ensures c.from-term.ensures c.from-4.ensures (first_is c.args.rules.now c.args.deal c.from-security.ensures c.from-lots.ensures c.from.ensures c.sum_for-sum.ensures)
     c.pieces_of.ensures c.second_sum.ensures

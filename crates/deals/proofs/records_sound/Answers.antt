@@ -8,32 +8,30 @@ use Rattle.deals.proofs.records_sound.Goals as goal
 
 pub returns-then-records-gt-LAST_DAY : goal.returns-then-records-gt-LAST_DAY
 returns-then-records-gt-LAST_DAY c =
-    let a = c.args in
-    late a.rules a.records.date a.records.count a.records.deals c.if-records-gt-LAST_DAY.true
+    late _ _ c.args.records.now.count c.args.records.now.deals c.if-records-gt-LAST_DAY.true
 
-pub returns-then-count-gt-MAX_DEALS : goal.returns-then-count-gt-MAX_DEALS
-returns-then-count-gt-MAX_DEALS c =
-    let a = c.args in
-    many a.rules a.records.date a.records.count a.records.deals c.if-count-gt-MAX_DEALS.true
+pub returns-then-records-gt-MAX_DEALS : goal.returns-then-records-gt-MAX_DEALS
+returns-then-records-gt-MAX_DEALS c =
+    many _ _ c.args.records.now.count c.args.records.now.deals c.if-records-gt-MAX_DEALS.true
 
 pub loop-i-init : goal.loop-i-init
 loop-i-init c = aged_none _ _ _ _
 
 pub returns-then-first-last : goal.returns-then-first-last
 returns-then-first-last c =
-    younger _ _ _ _ record { day = c.if-records-gt-LAST_DAY.false; few = c.if-count-gt-MAX_DEALS.false } _ _
-    c.loop-i.invariant c.loop-i-test.true _ c.from_u32-first.ensures c.if-first-last.true
+    younger _ _ _ _ record { day = c.if-records-gt-LAST_DAY.false; few = c.if-records-gt-MAX_DEALS.false } _ _
+    c.loop-i.invariant c.loop-i-test.true _ c.from-first.ensures c.if-first-last.true
 
 pub returns-then-rules-security : goal.returns-then-rules-security
 returns-then-rules-security c =
-    unsound _ _ _ _ record { day = c.if-records-gt-LAST_DAY.false; few = c.if-count-gt-MAX_DEALS.false } _ _
-    c.loop-i.invariant c.loop-i-test.true (unknown_deal _ _ _ c.from_u8-security.ensures c.if-rules-security.true)
+    unsound _ _ _ _ record { day = c.if-records-gt-LAST_DAY.false; few = c.if-records-gt-MAX_DEALS.false } _ _
+    c.loop-i.invariant c.loop-i-test.true (unknown_deal _ _ _ c.from-security.ensures c.if-rules-security.true)
 
-pub offset_bounds-table-security : goal.offset_bounds-table-security
-offset_bounds-table-security c = let ok = rules_ok_lem _ c.requires in omega (arith, ok.securities, c.if-rules-security.false)
+pub offset_bounds-rules-security : goal.offset_bounds-rules-security
+offset_bounds-rules-security c = let ok = rules_ok_lem _ c.requires in omega (arith, ok.securities, c.if-rules-security.false)
 
-pub bounds-table-security : goal.bounds-table-security
-bounds-table-security c = let ok = rules_ok_lem _ c.requires in omega (arith, ok.securities, c.if-rules-security.false)
+pub bounds-rules-security : goal.bounds-rules-security
+bounds-rules-security c = let ok = rules_ok_lem _ c.requires in omega (arith, ok.securities, c.if-rules-security.false)
 
 pub deal_sound-requires : goal.deal_sound-requires
 deal_sound-requires c =
@@ -42,17 +40,17 @@ deal_sound-requires c =
 
 pub returns-then-not-deal_sound : goal.returns-then-not-deal_sound
 returns-then-not-deal_sound c =
-    unsound _ _ _ _ record { day = c.if-records-gt-LAST_DAY.false; few = c.if-count-gt-MAX_DEALS.false } _ _
+    unsound _ _ _ _ record { day = c.if-records-gt-LAST_DAY.false; few = c.if-records-gt-MAX_DEALS.false } _ _
     c.loop-i.invariant c.loop-i-test.true
-    (known_deal _ _ _ c.from_u8-security.ensures c.if-rules-security.false ∙ fails c.deal_sound.ensures c.if-not-deal_sound.true)
+    (known_deal _ _ _ c.from-security.ensures c.if-rules-security.false ∙ fails c.deal_sound.ensures c.if-not-deal_sound.true)
 
 pub loop-i-preserved : goal.loop-i-preserved
 loop-i-preserved c =
-    aged_next _ _ _ _ record { day = c.if-records-gt-LAST_DAY.false; few = c.if-count-gt-MAX_DEALS.false } _ _
-    c.loop-i.invariant c.loop-i-test.true _ c.from_u32-first.ensures c.if-first-last.false
-    (known_deal _ _ _ c.from_u8-security.ensures c.if-rules-security.false ∙ holds c.deal_sound.ensures c.if-not-deal_sound.false)
+    aged_next _ _ _ _ record { day = c.if-records-gt-LAST_DAY.false; few = c.if-records-gt-MAX_DEALS.false } _ _
+    c.loop-i.invariant c.loop-i-test.true _ c.from-first.ensures c.if-first-last.false
+    (known_deal _ _ _ c.from-security.ensures c.if-rules-security.false ∙ holds c.deal_sound.ensures c.if-not-deal_sound.false)
 
 pub returns : goal.returns
 returns c =
-    aged_done _ _ _ _ record { day = c.if-records-gt-LAST_DAY.false; few = c.if-count-gt-MAX_DEALS.false } _ _
+    aged_done _ _ _ _ record { day = c.if-records-gt-LAST_DAY.false; few = c.if-records-gt-MAX_DEALS.false } _ _
     c.loop-i.invariant c.loop-i-test.false

@@ -1,10 +1,6 @@
 -- `deals::records_sound` meets its contract: the deals before place `i` are sound, and by age up to `last`.
-use Prim.Native.Nat.{◌-◌}
 use Rattle.deals.proofs.Ages.{Aged}
 use Rattle.deals.proofs.records_sound.Given as goal
 
 abbrev pub invariant-loop-i : goal.invariant-loop-i
-invariant-loop-i l = Aged l.rules l.records.date l.count l.deals l.last l.i
-
-abbrev pub decreases-loop-i : goal.decreases-loop-i
-decreases-loop-i l = l.count - l.i
+invariant-loop-i l = Aged l.rules l.records.date l.records.count l.records.deals l.last l.i

@@ -6,21 +6,20 @@ use Rattle.linked.proofs.group.Goals as goal
 pub returns-then-trades-lt-LENT_AT_LEAST : goal.returns-then-trades-lt-LENT_AT_LEAST
 returns-then-trades-lt-LENT_AT_LEAST c =
     let a = c.args in
-    rw c.declined.ensures
-    (group_short a.rules a.phase a.money.now a.pieces.now a.b a.trades.now a.participant a.count
-    a.members c.requires c.if-trades-lt-LENT_AT_LEAST.true)
+    rw c.from.ensures
+    (group_short a.rules.now a.floor.now a.trades.now a.participant a.count a.members.now c.requires
+    c.if-trades-lt-LENT_AT_LEAST.true)
 
 pub returns-then-not-within : goal.returns-then-not-within
 returns-then-not-within c =
     let a = c.args in
-    rw c.declined-then-not-within.ensures
-    (group_many a.rules a.phase a.money.now a.pieces.now a.b a.trades.now a.participant a.count
-    a.members c.requires c.if-trades-lt-LENT_AT_LEAST.false (fails c.within.ensures c.if-not-within.true))
+    rw c.from-then-not-within.ensures
+    (group_many a.rules.now a.floor.now a.trades.now a.participant a.count a.members.now c.requires
+    c.if-trades-lt-LENT_AT_LEAST.false (fails c.within.ensures c.if-not-within.true))
 
 pub members_in_turn-requires : goal.members_in_turn-requires
-members_in_turn-requires c =
-    record {
-      ready = c.requires;
-      lent = c.if-trades-lt-LENT_AT_LEAST.false;
-      few = holds c.within.ensures c.if-not-within.false;
-    }
+members_in_turn-requires c = record {
+  ready = c.requires;
+  lent = c.if-trades-lt-LENT_AT_LEAST.false;
+  few = holds c.within.ensures c.if-not-within.false;
+}

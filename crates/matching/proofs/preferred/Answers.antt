@@ -1,39 +1,14 @@
 -- `matching::preferred` meets its contract: the order found stays unless the other fits and is better.
-use mathlib.Core.Path.{◌∙◌, sym}
+use Rattle.std.proofs.Common.{arith}
+use Rattle.std.proofs.lemmas.Bool.Decides.{nat_tests}
 use Rattle.market.specs.Tests.{◌and◌}
-use Rattle.amounts.proofs.Answers.{fails, holds}
 use Rattle.matching.specs.Search.{prefer_later}
 use Rattle.matching.proofs.preferred.Goals as goal
 
-pub returns-then-not-fits : goal.returns-then-not-fits
+pub returns-then-is_none_or : goal.returns-then-is_none_or
 unfolding prefer_later ◌and◌
-returns-then-not-fits c = rw (fails c.fits.ensures c.if-not-fits.true)
+returns-then-is_none_or c = grind (arith, nat_tests)
 
-pub returns-in_default : goal.returns-in_default
+pub returns-else-fits : goal.returns-else-fits
 unfolding prefer_later ◌and◌
-returns-in_default c =
-    rw (
-      c.price_of-price.ensures,
-      c.in_default.is,
-      holds c.fits.ensures c.if-not-fits.false,
-    )
-
-pub returns-then-better : goal.returns-then-better
-unfolding prefer_later ◌and◌
-returns-then-better c =
-    rw (
-      ← c.price_of-price.ensures,
-      c.in-At.is,
-      holds c.fits.ensures c.if-not-fits.false,
-      sym c.better.ensures ∙ c.if-better.true,
-    )
-
-pub returns : goal.returns
-unfolding prefer_later ◌and◌
-returns c =
-    rw (
-      ← c.price_of-price.ensures,
-      c.in-At.is,
-      holds c.fits.ensures c.if-not-fits.false,
-      sym c.better.ensures ∙ c.if-better.false,
-    )
+returns-else-fits c = grind (arith, nat_tests)

@@ -1,5 +1,4 @@
 -- `matching::settle` meets its contract: two transfers between the definition's cells, and the fees.
-use mathlib.Core.Path.{◌∙◌}
 use native.Mathlib.Omega.{arith}
 use Rattle.matching.proofs.Settling.{fee_small, fees_fit, fees_paid_lem, fees_payable, payable_as, transferred}
 use Rattle.matching.proofs.settle.Goals as goal
@@ -45,8 +44,9 @@ transfer-requires-2 c =
 
 pub returns : goal.returns
 returns c =
-    record {
-      money_after = fees_paid_lem c.requires c.cell_of-payer.ensures c.cell_of-payee.ensures
-          c.fee_of-fee.ensures c.transfer.ensures c.account_cell.ensures c.receive.ensures;
-      pieces_after = c.transfer-2.ensures ∙ transferred c.cell_of-holder.ensures c.cell_of-taker.ensures _ _ _ _;
-    }
+    rw (
+      fees_paid_lem c.requires c.cell_of-payer.ensures c.cell_of-payee.ensures c.fee_of-fee.ensures c.transfer.ensures
+          c.account_cell.ensures c.receive.ensures,
+      c.transfer-2.ensures,
+      transferred c.cell_of-holder.ensures c.cell_of-taker.ensures c.args.floor.now.pieces c.args.sold c.args.sold c.args.sold,
+    )

@@ -1,32 +1,23 @@
--- `matching::write_trade` meets its contract: eight stores, one beside another.
+-- `matching::write_trade` meets its contract: the part of the list that is written holds the trade's numbers.
+use Prim.Native.Nat.{ℕ, ◌*◌}
 use native.Mathlib.Omega.{arith}
-use lib.ListN.{length-set}
-use Rattle.matching.specs.Written.{trade_as}
-use Rattle.matching.proofs.Writing.{eight_stores}
+use mathlib.Core.Path.{◌∙◌, ◌≡◌, refl}
+use mathlib.Core.List.{List}
+use lib.Seq.{paste}
+use Rattle.std.proofs.lemmas.Slice.{put_mid-paste}
+use Rattle.market.specs.Limits.{numbers_per_trade}
+use Rattle.market.specs.TradeList.{Trade, numbers}
+use Rattle.matching.specs.Written.{trade_as, trade_written}
 use Rattle.matching.proofs.write_trade.Goals as goal
 
-pub bounds-trades-first-2 : goal.bounds-trades-first-2
-bounds-trades-first-2 c = simp length-set (omega arith)
-
-pub bounds-trades-first-3 : goal.bounds-trades-first-3
-bounds-trades-first-3 c = simp length-set (omega arith)
-
-pub bounds-trades-first-4 : goal.bounds-trades-first-4
-bounds-trades-first-4 c = simp length-set (omega arith)
-
-pub bounds-trades-first-5 : goal.bounds-trades-first-5
-bounds-trades-first-5 c = simp length-set (omega arith)
-
-pub bounds-trades-first-6 : goal.bounds-trades-first-6
-bounds-trades-first-6 c = simp length-set (omega arith)
-
-pub bounds-trades-first-7 : goal.bounds-trades-first-7
-bounds-trades-first-7 c = simp length-set (omega arith)
-
-pub bounds-trades-first-8 : goal.bounds-trades-first-8
-bounds-trades-first-8 c = simp length-set (omega arith)
+pasted : (l : List ℕ) (n : ℕ) (t : Trade) {i : ℕ} → i ≡ numbers_per_trade * n
+    → paste l i (numbers t) numbers_per_trade ≡ trade_written n t l
+unfolding trade_written
+pasted l n t e = rw e
 
 pub returns : goal.returns
 returns c =
     let a = c.args in
-    eight_stores a.trades.now a.at (trade_as a.buy a.sell a.price a.lots a.sum) c.requires
+    let t = trade_as a.buy a.sell a.price a.lots a.sum in
+    put_mid-paste _ _ _ _ (numbers t) _ c.copy_from_slice.ensures.after (omega arith) refl
+    ∙ pasted a.trades.now a.at t (omega arith)

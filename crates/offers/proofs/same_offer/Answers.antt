@@ -1,9 +1,13 @@
--- `offers::same_offer` meets its contract: neither a kept nor a closing order is an offer; of two offers, number by number.
-use mathlib.Core.Path.{◌∙◌}
+-- `offers::same_offer` meets its contract: price, rate and term, number by number.
+use native.Mathlib.Omega.{arith}
+use Rattle.std.proofs.lemmas.Grind.{common_steps}
+use Rattle.market.specs.Tests.{◌and◌}
 use Rattle.offers.proofs.same_offer.Goals as goal
 
-pub returns-in-Offer-b : goal.returns-in-Offer-b
-returns-in-Offer-b c =
-    rw (c.in-Offer.is, c.in-Offer-b.is)
-    (c.same_terms.ensures
-    ∙ rw (c.from_u16.ensures, c.from_u16-in-Offer-b.ensures, c.from_u16-in-Offer-b-2.ensures, c.from_u16-in-Offer-b-3.ensures))
+pub returns-then-rate-yearly : goal.returns-then-rate-yearly
+unfolding ◌and◌
+returns-then-rate-yearly c = grind (arith, common_steps)
+
+pub returns-else-rate-yearly : goal.returns-else-rate-yearly
+unfolding ◌and◌
+returns-else-rate-yearly c = grind (arith, common_steps)

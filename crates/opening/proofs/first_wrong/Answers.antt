@@ -1,9 +1,5 @@
--- `opening::first_wrong` meets its contract. The loop's invariant: the first wrong row is the first from i on.
-use native.Mathlib.Omega.{arith}
-use native.Mathlib.Numerals.{add-one}
-use mathlib.Core.Path.{◌≡◌, ap, sym, ◌∙◌}
-use mathlib.Core.Bool.{true, false}
-use Prim.Native.Nat.{ℕ, suc, ◌<◌, ◌-◌, ◌+◌}
+-- `opening::first_wrong` meets its contract, row by row.
+use Rattle.std.proofs.Common.{◌≡◌, ℕ, suc, ◌<◌, ◌-◌, ◌+◌, add-one, ap, arith, false, sym, true, ◌∙◌}
 use Rattle.market.specs.declared.Rules.{Rules}
 use Rattle.market.specs.Day.{row}
 use Rattle.market.specs.Sound.{row_sound}
@@ -28,19 +24,19 @@ right-here r n i h e =
 
 pub loop-i-init : goal.loop-i-init
 loop-i-init c =
-    let whole : c.args.rules.securities - 0 ≡ c.args.rules.securities = omega arith in
-    (omega arith, rw whole)
+    let whole : c.args.rules.now.securities - 0 ≡ c.args.rules.now.securities = omega arith in
+    rw whole
 
 pub returns-then-not-row_sound : goal.returns-then-not-row_sound
 returns-then-not-row_sound c =
-    sym (c.loop-i.invariant.1 ∙ wrong-here _ _ _ c.loop-i-test.true (fails c.row_sound.ensures c.if-not-row_sound.true))
+    (omega arith, c.loop-i.invariant ∙ wrong-here _ _ _ c.loop-i-test.true (fails c.row_sound.ensures c.if-not-row_sound.true))
 
 pub loop-i-preserved : goal.loop-i-preserved
 loop-i-preserved c =
-    (omega arith, c.loop-i.invariant.1 ∙ right-here _ _ _ c.loop-i-test.true (holds c.row_sound.ensures c.if-not-row_sound.false))
+    c.loop-i.invariant ∙ right-here _ _ _ c.loop-i-test.true (holds c.row_sound.ensures c.if-not-row_sound.false)
 
 pub returns : goal.returns
 unfolding first_wrong
 returns c =
-    let none : c.args.rules.securities - c.loop-i.i ≡ 0 = omega arith in
-    sym (c.loop-i.invariant.1 ∙ rw none)
+    let none : c.args.rules.now.securities - c.loop-i.i ≡ 0 = omega arith in
+    c.loop-i.invariant ∙ rw none

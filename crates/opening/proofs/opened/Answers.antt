@@ -6,4 +6,4 @@ use Rattle.opening.proofs.opened.Goals as goal
 
 pub returns : goal.returns
 unfolding opened opened_ledger
-returns c = rw c.no_deals.ensures record { result_value = refl; value = refl }
+returns c = rw (c.empty_floor.ensures, c.no_deals.ensures) record { result_value = refl; value = refl }

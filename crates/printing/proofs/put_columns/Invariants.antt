@@ -1,5 +1,4 @@
--- `printing::put_columns` meets its contract. The loop's invariant: the lines of the columns passed are put.
-use Prim.Native.Nat.{◌-◌}
+-- `printing::put_columns`: the lines of the columns passed are put.
 use Rattle.printing.specs.Buffer.{line_room}
 use Rattle.printing.specs.Lines.{column_lines}
 use Rattle.printing.proofs.Runs.{Running}
@@ -8,6 +7,3 @@ use Rattle.printing.proofs.put_columns.Given as goal
 abbrev pub invariant-loop-column : goal.invariant-loop-column
 invariant-loop-column l =
     Running (column_lines l.letter l.positions l.participant) (line_room 4) l.columns l.initial.out l.initial.end l.out l.end l.column
-
-abbrev pub decreases-loop-column : goal.decreases-loop-column
-decreases-loop-column l = l.columns - l.column

@@ -1,4 +1,4 @@
--- `printing::put_digits` meets its contract. The loop's invariant: the digits passed are put, and those ahead are the rest's.
+-- `printing::put_digits`: the digits passed are put, and those ahead are the rest's.
 use native.Mathlib.Omega.{arith}
 use Rattle.printing.proofs.Decimals.{decimal_length}
 use Rattle.printing.proofs.Digits.{ending_ends, ending_next, ending_starts}
@@ -12,17 +12,8 @@ loop-i-init c =
     let a = c.args in
     rw c.width.ensures (ending_starts a.out.now a.at a.n (omega (arith, decimal_length a.n)))
 
-pub bounds-out-i : goal.bounds-out-i
-bounds-out-i c = let h = c.loop-i.invariant in omega (arith, h.within, h.lent, h.size, c.loop-i-test.true)
-
-pub loop-i-smaller : goal.loop-i-smaller
-loop-i-smaller c = omega (arith, c.loop-i-test.true)
-
 pub loop-i-preserved : goal.loop-i-preserved
 loop-i-preserved c = ending_next c.loop-i.invariant c.loop-i-test.true
-
-pub shape_of-out : goal.shape_of-out
-shape_of-out c = c.loop-i.invariant.size
 
 pub returns : goal.returns
 returns c = rw c.width.ensures (ending_ends c.loop-i.invariant c.loop-i-test.false)

@@ -1,9 +1,6 @@
--- `printing::put_digits` meets its contract. The loop's invariant: the digits passed are put, and those ahead are the rest's.
+-- `printing::put_digits`: the digits passed are put, and those ahead are the rest's.
 use Rattle.printing.proofs.Digits.{Ending}
 use Rattle.printing.proofs.put_digits.Given as goal
 
 abbrev pub invariant-loop-i : goal.invariant-loop-i
 invariant-loop-i l = Ending l.initial.out l.at l.n l.out l.rest l.i
-
-abbrev pub decreases-loop-i : goal.decreases-loop-i
-decreases-loop-i l = l.i

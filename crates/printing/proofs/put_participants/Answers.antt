@@ -1,4 +1,4 @@
--- `printing::put_participants` meets its contract. The loop's invariant: the lines of the participants passed are put.
+-- `printing::put_participants`: the lines of the participants passed are put.
 use native.Mathlib.Omega.{arith}
 use Rattle.printing.proofs.Runs.{participant_run, run_ends, run_next, run_room, run_starts}
 use Rattle.printing.proofs.put_participants.Goals as goal

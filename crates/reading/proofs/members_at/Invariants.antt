@@ -1,11 +1,7 @@
 -- `reading::members_at` meets its contract. The loop's invariant: the members from here on come to those from the
 -- start on.
-use Prim.Native.Nat.{◌-◌}
 use Rattle.reading.proofs.MemberLines.{Passed}
 use Rattle.reading.proofs.members_at.Given as goal
 
 abbrev pub invariant-loop-i : goal.invariant-loop-i
-invariant-loop-i l = Passed l.text l.from l.n l.list l.at l.i
-
-abbrev pub decreases-loop-i : goal.decreases-loop-i
-decreases-loop-i l = l.n - l.i
+invariant-loop-i l = Passed l.text l.from l.n l.list l.next l.i

@@ -6,5 +6,5 @@ use Rattle.script.proofs.answered.Goals as goal
 
 pub returns : goal.returns
 returns c =
-    let most = ends c.put_answer.ensures (answer_length _ _) in
+    let most = ends c.put_answer-p.ensures (answer_length _ _) in
     record { size = search rules; at = search rules; lent = search rules; filled = omega arith; goes = search rules }

@@ -1,77 +1,32 @@
--- `session::closing_no` meets its contract: questions 4 to 7, then the others on listing and turnover of the security.
-use Prim.Native.Nat.{◌<◌}
-use native.Mathlib.Omega.{arith}
-use mathlib.Core.Path.{◌≡◌}
-use Rattle.market.specs.Limits.{max_participants, max_securities}
-use Rattle.market.specs.Questions.{first_no}
-use Rattle.session.specs.Asking.{early_closing}
-use Rattle.session.proofs.Asking.{in_counts, in_lots, in_rules, no_early, no_later, reckonable}
-use Rattle.session.proofs.closing_no.Goals.{Else-early-gt0, Start}
+-- `session::closing_no` meets its contract: questions 4 to 7, then the others of the claim.
+use Rattle.std.proofs.Common.{rules}
+use Rattle.session.proofs.Asking.{in_lots, no_early, no_later, reckonable}
 use Rattle.session.proofs.closing_no.Goals as goal
 
-pub returns-then-early-gt0 : goal.returns-then-early-gt0
-returns-then-early-gt0 c =
+pub returns-in_err-early_no : goal.returns-in_err-early_no
+returns-in_err-early_no c =
     let a = c.args in
-    no_early a.rules a.phase a.codes a.participant a.side a.security a.lots a.turnovers a.count a.money.now
-    a.pieces.now c.early_closing_no-early.result c.if-early-gt0.true c.early_closing_no-early.ensures
+    let no = rw c.admits-admitted.ensures at c.in_err-early_no.ensures in
+    let first =
+    no_early a.rules.now a.floor.now c.requires a.participant a.side a.security a.lots c.in_err-early_no.field-0.0 no in
+    search rules
 
--- behind question 7
-abbrev start : Else-early-gt0 → Start
-start c = c.before.before
+pub closing_claim-claim-requires : goal.closing_claim-claim-requires
+closing_claim-claim-requires c =
+    let a = c.args in
+    let none = rw c.admits-admitted.ensures at c.in_ok-early_no.ensures in
+    in_lots a.rules.now a.floor.now c.requires a.participant a.side a.security a.lots none
 
-none : (c : Else-early-gt0) →
-    let a = (start c).args in
-    first_no (early_closing a.rules.participants a.rules.securities a.phase a.participant a.security a.lots) ≡ 0
-none c = omega (arith, c.if-early-gt0.false, c.early_closing_no-early.ensures)
-
-listed : (c : Else-early-gt0) → (start c).args.security < max_securities
-listed c =
-    let b = start c in
-    let a = b.args in
-    in_rules a.rules a.phase a.codes a.participant a.side a.security a.lots b.requires (none c)
-
-pub offset_bounds-table-listed : goal.offset_bounds-table-listed
-offset_bounds-table-listed c = omega (arith, listed c.before)
-
-pub bounds-table-listed : goal.bounds-table-listed
-bounds-table-listed c = listed c.before
-
-pub offset_bounds-turnovers-listed : goal.offset_bounds-turnovers-listed
-offset_bounds-turnovers-listed c = omega (arith, listed c.before.before)
-
-pub bounds-turnovers-listed : goal.bounds-turnovers-listed
-bounds-turnovers-listed c = listed c.before.before
-
-own : (c : Else-early-gt0) → (start c).args.participant < max_participants
-own c =
-    let b = start c in
-    let a = b.args in
-    in_counts a.rules a.phase a.codes a.participant a.side a.security a.lots b.requires (none c)
-
-pub offset_bounds-codes-participant : goal.offset_bounds-codes-participant
-offset_bounds-codes-participant c = omega (arith, own c.before.before.before)
-
-pub bounds-codes-participant : goal.bounds-codes-participant
-bounds-codes-participant c = own c.before.before.before
-
-pub closing_claim-o-requires : goal.closing_claim-o-requires
-closing_claim-o-requires c =
-    let k = c.before.before.before in
-    let b = start k in
-    let a = b.args in
-    in_lots a.rules a.phase a.codes a.participant a.side a.security a.lots b.requires (none k)
-
-pub later_closing_no-requires : goal.later_closing_no-requires
-later_closing_no-requires c =
-    let b = start c.before.before.before.before in
-    let a = b.args in
-    reckonable a.rules a.phase a.codes a.participant a.side a.security a.lots b.requires (none c.before.before.before.before)
-    c.closing_claim-o.ensures
+pub later_no-requires : goal.later_no-requires
+later_no-requires c =
+    let a = c.args in
+    let none = rw c.admits-admitted.ensures at c.in_ok-early_no.ensures in
+    rw c.closing_claim-claim.ensures
+    (reckonable a.rules.now a.floor.now c.requires a.participant a.side a.security a.lots none)
 
 pub returns : goal.returns
 returns c =
-    let b = start c.before.before.before.before.before in
-    let a = b.args in
-    no_later a.rules a.phase a.codes a.participant a.side a.security a.lots b.requires (none c.before.before.before.before.before)
-    c.closing_claim-o.ensures a.count a.money.now a.pieces.now c.later_closing_no.result
-    c.later_closing_no.ensures
+    let a = c.args in
+    let none = rw c.admits-admitted.ensures at c.in_ok-early_no.ensures in
+    let later = rw c.closing_claim-claim.ensures at c.later_no.ensures in
+    no_later a.rules.now a.floor.now c.requires a.participant a.side a.security a.lots none later

@@ -1,12 +1,7 @@
--- `soundness::positions_sound` meets its contract: the columns before `column` are sound, and `total` is what the
--- participants before `p` hold in this one.
-use Prim.Native.Nat.{◌-◌, ◌*◌}
+-- `soundness::positions_sound` meets its contract: the columns before `column` are sound.
+use Rattle.soundness.specs.Parts.{column_sound}
 use Rattle.soundness.proofs.Loops as loops
 use Rattle.soundness.proofs.positions_sound.Given as goal
 
 abbrev pub invariant-loop-column : goal.invariant-loop-column
-invariant-loop-column l =
-    loops.Counted l.asset l.participants l.columns l.limit l.first l.positions l.needs l.total l.p l.column
-
-abbrev pub decreases-loop-column : goal.decreases-loop-column
-decreases-loop-column l = (l.columns - l.column) * 16 - l.p
+invariant-loop-column l = loops.Passed (column_sound l.asset l.participants l.limit l.first l.positions l.needs) l.columns l.column

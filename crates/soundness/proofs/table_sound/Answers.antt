@@ -1,21 +1,11 @@
--- `soundness::table_sound` meets its contract: the lines before `i` are sound.
-use native.Mathlib.Omega.{arith}
-use Rattle.amounts.proofs.Answers.{fails, holds}
-use Rattle.soundness.proofs.Loops as loops
+-- `soundness::table_sound` meets its contract: all of so many rows.
+use Rattle.std.proofs.Common.{◌∙◌, arith}
+use Rattle.market.specs.Day.{no_security}
+use Rattle.market.specs.Sound.{security_sound}
+use Rattle.soundness.proofs.Below.{all_first}
 use Rattle.soundness.proofs.table_sound.Goals as goal
 
-pub loop-i-init : goal.loop-i-init
-loop-i-init c = loops.passed_none _ _
-
-pub returns-then-not-security_sound : goal.returns-then-not-security_sound
-returns-then-not-security_sound c =
-    let l = c.loop-i in
-    loops.passed_fails _ _ _ l.invariant (omega arith) (fails c.security_sound.ensures c.if-not-security_sound.true)
-
-pub loop-i-preserved : goal.loop-i-preserved
-loop-i-preserved c =
-    let l = c.loop-i in
-    loops.passed_next _ _ _ l.invariant (omega arith) (holds c.security_sound.ensures c.if-not-security_sound.false)
-
 pub returns : goal.returns
-returns c = loops.passed_all _ _ _ c.loop-i.invariant (omega arith)
+returns c =
+    let a = c.args in
+    c.each_row_sound.ensures ∙ all_first (security_sound a.currencies) no_security a.table a.securities (omega arith)

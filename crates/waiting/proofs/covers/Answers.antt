@@ -1,19 +1,18 @@
--- `waiting::covers` meets its contract: the need against what is free where an order of either side blocks.
-use Prim.Native.Nat.{ℕ}
-use mathlib.Core.Path.{◌∙◌, ap}
-use Rattle.market.specs.declared.Side.TheVariants.{Buy, Sell}
-use Rattle.market.specs.Tests.{◌≤?◌}
-use Rattle.waiting.proofs.Made.{covers_as}
+-- `waiting::covers` meets its contract, where an order of either side blocks.
+use Rattle.market.specs.Questions.{covered}
+use Rattle.waiting.proofs.Claims.{cell_inside}
 use Rattle.waiting.proofs.covers.Goals as goal
 
+pub free_of-requires : goal.free_of-requires
+free_of-requires c = rw c.cell_for-at.ensures (cell_inside _ c.args.o c.requires)
+
+pub free_of-requires-in-Sell : goal.free_of-requires-in-Sell
+free_of-requires-in-Sell c = rw c.cell_for-at.ensures (cell_inside _ c.args.o c.requires)
+
 pub returns-in-Buy : goal.returns-in-Buy
-returns-in-Buy c =
-    ap (λ (x : ℕ). c.need_of-need.result ≤? x) c.free_of.ensures
-    ∙ covers_as c.args.listing c.args.turnover c.args.o c.args.money.now c.args.pieces.now Buy
-    c.in-Buy.is _ _ c.need_of-need.ensures c.cell_of.ensures
+unfolding covered
+returns-in-Buy c = rw (c.free_of.ensures, c.cell_for-at.ensures, c.need_on-need.ensures, c.in-Buy.is)
 
 pub returns-in-Sell : goal.returns-in-Sell
-returns-in-Sell c =
-    ap (λ (x : ℕ). c.need_of-need.result ≤? x) c.free_of-in-Sell.ensures
-    ∙ covers_as c.args.listing c.args.turnover c.args.o c.args.money.now c.args.pieces.now Sell
-    c.in-Sell.is _ _ c.need_of-need.ensures c.cell_of-in-Sell.ensures
+unfolding covered
+returns-in-Sell c = rw (c.free_of-in-Sell.ensures, c.cell_for-at.ensures, c.need_on-need.ensures, c.in-Sell.is)

@@ -1,10 +1,7 @@
--- `script::ending::put_accounts` meets its contract. The loop's invariant: at most a line's room is taken for each one passed.
-use Rattle.std.proofs.Common.{◌≡◌, ◌+◌, ◌-◌, ◌*◌, ◌≤◌, length}
+-- `script::ending::put_accounts`: at most a line's room is taken for each one passed.
+use Rattle.std.proofs.Common.{◌+◌, ◌*◌, ◌≤◌}
 use Rattle.script.specs.Rooms.{account_room}
 use Rattle.script.proofs.ending.put_accounts.Given as goal
 
-abbrev pub invariant-loop-i : goal.invariant-loop-i
-invariant-loop-i l = (l.i ≤ l.currencies) × (length l.out ≡ length l.initial.out) × (l.end ≤ l.initial.end + l.i * account_room)
-
-abbrev pub decreases-loop-i : goal.decreases-loop-i
-decreases-loop-i l = l.currencies - l.i
+abbrev pub invariant-loop-currency : goal.invariant-loop-currency
+invariant-loop-currency l = l.end ≤ l.initial.end + l.currency * account_room

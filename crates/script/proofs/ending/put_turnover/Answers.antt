@@ -1,10 +1,6 @@
--- `script::ending::put_turnover` meets its contract.
-use Rattle.std.proofs.Common.{arith, rules}
-use Rattle.printing.proofs.Lines.{worded_length}
-use Rattle.script.proofs.Lengths.{ends}
+-- `script::ending::put_turnover` meets its contract: its line has its room.
+use Rattle.script.proofs.Lengths.{adds_worded}
 use Rattle.script.proofs.ending.put_turnover.Goals as goal
 
 pub returns : goal.returns
-returns c =
-    let most = ends c.put_worded.ensures (worded_length _ _) in
-    record { size = search rules; most = omega arith }
+returns c = adds_worded _ _ c.put_worded.ensures

@@ -1,0 +1,15 @@
+-- What each turn of the loop keeps, and the measure that gets smaller.
+use Prim.Native.Nat.{◌-◌, ◌≤◌}
+use mathlib.Core.Path.{◌≡◌}
+use lib.ListN.{length}
+use Rattle.market.specs.Limits.{lent_at_least}
+use Rattle.commands.specs.Stand.{room}
+use Rattle.exports.proofs.Printing.{Further}
+use Rattle.exports.proofs.checked.whole_day.Given as goal
+
+abbrev pub invariant-loop-trades : goal.invariant-loop-trades
+invariant-loop-trades l =
+    Further l.text l.initial.run l.initial.out l.run l.out × (length l.trades ≡ lent_at_least) × (room ≤ length l.out)
+
+abbrev pub decreases-loop-trades : goal.decreases-loop-trades
+decreases-loop-trades l = length l.text - l.run.at
