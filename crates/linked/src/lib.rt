@@ -35,7 +35,8 @@ fn restore(kept: [u64; LENT_AT_LEAST], count: usize, trades: &mut [u64])
     trades[..count].copy_from_slice(&kept[..count]);
 }
 
-// The members in list order. At the first that is refused, floor and trade list are those before the group.
+// The members in list order. At the first that is refused, floor and trade list are those before the group. An array and a
+// count, as the call has them (`linked participant count members`): what stands past the count is lent, and not read.
 fn members_in_turn(
     floor: &mut Floor,
     rules: &Rules,
