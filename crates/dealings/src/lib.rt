@@ -138,7 +138,7 @@ fn offer_no(
     later_no(floor, records, rules, proposal)
 }
 
-// The deal that the lent list's first trade opens on this date.
+// The deal that the lent list's first trade opens on this date. Of the proposal it takes rate and term alone, as the definition.
 fn deal_in(date: u64, rate: u64, term: u64, trades: &[u64]) -> Deal
     requires { Readable date rate term trades.now }
     ensures { result ≡ deal_in date rate term trades.now }

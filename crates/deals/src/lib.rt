@@ -54,8 +54,7 @@ fn deal_sound(participants: u64, row: Security, deal: Deal) -> bool
     loan_sound(row, price, lots, u64::from(deal.rate))
 }
 
-// A date of the table, and at most 64 deals, each sound, oldest first and none from a later day. By place: over a slice of
-// the deals the proof didn't close.
+// A date of the table, and at most 64 deals, each sound, oldest first and none from a later day.
 pub fn records_sound(rules: &Rules, records: &Records) -> bool
     requires { rules_sound rules.now ≡ true }
     ensures { result ≡ records_sound rules.now records.now.date (first_deals records.now.count records.now.deals) }

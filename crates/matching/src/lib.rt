@@ -125,7 +125,7 @@ fn lots_fitting(e: Order, o: Order) -> u64
     if fits(e, o) { lots_of(o) } else { 0 }
 }
 
-// The lots of the waiting orders that fit the entry, added up. No chain: its sum has no invariant to hold the bound.
+// The lots of the waiting orders that fit the entry, added up.
 pub fn fitting_lots(waiting: &[Order], e: Order) -> u64
     requires { FewLots waiting.now }
     ensures { result ≡ fitting e waiting.now }

@@ -29,6 +29,7 @@ use phases::admits;
 use waiting::{append, block_need, covers, free_need, leave};
 
 // The order before it is numbered, which suffices for questions 14 and 15: neither need nor fit reads code or arrival.
+// Participant and ticket stay two: a group has one participant for all its tickets. Lots come as a host gives them.
 pub fn claim_of(participant: u64, member: Ticket) -> Order
     requires { member.lots ≤ max_lots }
     ensures { result ≡ claim_with participant member }

@@ -101,7 +101,7 @@ fn group_at(text: &[u8], next: usize, participant: u64, n: u64) -> Reading
     let Some(members) = members_at(text, next, n) else {
         return single(Line::Malformed, next);
     };
-    // By a local: from within the record the proof didn't close.
+    // By a local: the checker covers no array field that is given another field's value straight.
     let list = members.list;
     Reading {
         says,

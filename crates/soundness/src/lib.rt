@@ -184,7 +184,6 @@ fn need_cell(side: Side, participant: u64, currency: u64, security: u64) -> usiz
 
 // Is each waiting order sound, do their arrivals rise from 1, up to all codes given at most, and each participant's codes from
 // 1, up to his count at most? What each needs is added at its cell in the same pass, so that the orders are read once.
-// By place: over a slice of the orders the proof didn't close.
 fn orders_sound(rules: &Rules, floor: &Floor, needs: &mut [u64; 544]) -> bool
     requires { (orderly (day_of rules.now floor.now) ≡ true) × (needs.old ≡ replicate (cells + cells) 0) }
     ensures { Checked (day_of rules.now floor.now) result needs.new }
