@@ -1,5 +1,5 @@
 -- The questions of an offer, as the code asks them on a floor and records.
-use Prim.Native.Nat.{ℕ, ◌≤◌}
+use Prim.Native.Nat.{ℕ, ◌≤◌, ◌<◌}
 use native.Mathlib.Omega.{arith}
 use mathlib.Core.Path.{◌≡◌, refl, sym, ◌∙◌}
 use mathlib.Core.List.{List, ◌++◌}
@@ -8,7 +8,6 @@ use borrow.Author.Tests.{leb-true}
 use Rattle.market.specs.declared.Access.TheVariants.{Offer}
 use Rattle.market.specs.declared.Floor.{Floor}
 use Rattle.market.specs.declared.Records.{Records}
-use Rattle.market.specs.declared.Refusal.{Refusal}
 use Rattle.market.specs.declared.Rules.{Rules}
 use Rattle.market.specs.declared.Security.{Security}
 use Rattle.market.specs.declared.TimeInForce.TheVariants.{Kept}
@@ -18,7 +17,6 @@ use Rattle.market.specs.View.{day_of}
 use Rattle.market.specs.Phases.{admits}
 use Rattle.market.specs.Sound.{price_sound}
 use Rattle.market.specs.Questions.{Question, covered, first_no}
-use Rattle.market.specs.Refusals.{number_of}
 use Rattle.market.specs.Offers.{offer_of}
 use Rattle.market.specs.Deals.{loan_sound, no_deal, term_sound}
 use Rattle.market.specs.ActStep.{offer_questions}
@@ -30,7 +28,7 @@ use Rattle.invariant.specs.Standing.{Standing}
 use Rattle.waiting.specs.Claims.{Reckonable}
 use Rattle.waiting.proofs.Claims.{known_reckons}
 use Rattle.orders.specs.Entering.{Askable, open_questions}
-use Rattle.orders.proofs.Asking.{askable, positive}
+use Rattle.orders.proofs.Asking.{askable}
 use Rattle.dealings.specs.declared.Proposal.{Proposal}
 use Rattle.dealings.specs.Asking.{Narrow, loan_questions, offer_claim, offer_no}
 
@@ -71,8 +69,8 @@ module _ (r : Rules) (f : Floor) (z : Records) (q : Proposal) where
   unfolding offer_questions
   asked_in_turn = rw (first_length f.count f.orders, cut_length no_deal z.count z.deals, covered_is)
 
-  pub no_early : (y : Refusal) → number_of y ≡ first_no early → number_of y ≡ offer_no r f z q
-  no_early y e = e ∙ sym (asked_in_turn ∙ hides early later (omega (arith, e, positive y)))
+  pub no_early : (n : ℕ) → 0 < n → n ≡ first_no early → n ≡ offer_no r f z q
+  no_early n some e = e ∙ sym (asked_in_turn ∙ hides early later (omega arith))
 
   -- none of the early ones is answered "no"
   module _ (none : 0 ≡ first_no early) where

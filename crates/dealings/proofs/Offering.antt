@@ -6,7 +6,7 @@ use mathlib.Core.List.{List, ◌++◌}
 use lib.ListN.{length}
 use borrow.Author.Tests.{le-leb, lt-leb, ltb-true}
 use Rattle.market.specs.declared.Answer.{Answer}
-use Rattle.market.specs.declared.Answer.TheVariants.{Refused}
+use Rattle.market.specs.declared.Answer.TheVariants.{Done, Refused}
 use Rattle.market.specs.declared.Deal.{Deal}
 use Rattle.market.specs.declared.Floor.{Floor}
 use Rattle.market.specs.declared.Order.{Order}
@@ -35,7 +35,7 @@ use Rattle.market.proofs.LedgerParts.{act_accept, act_refuse}
 use Rattle.invariant.specs.Standing.{Placeable, Standing}
 use Rattle.invariant.proofs.Offers.{AtMostOne, FirstOk, offer_placeable, offered_trades}
 use Rattle.codes.specs.Numbers.{Numberable}
-use Rattle.orders.proofs.Asking.{positive}
+use Rattle.orders.proofs.Asking.{counted, positive}
 use Rattle.offers.specs.Offering.{Offerable, OfferedAs}
 use Rattle.dealings.specs.declared.Proposal.{Proposal}
 use Rattle.dealings.specs.Asking.{Accepted, Narrow, offer_no, proposed}
@@ -91,11 +91,8 @@ module _ {r : Rules} {f : Floor} {z : Records} {q : Proposal} {v : List ℕ} (a 
 
   pub numberable : Numberable r.participants f.codes q.participant
   unfolding offer_questions
-  numberable = record {
-    few = g.backed.rules_ok.participants;
-    codes = g.limit;
-    participant = ltb-true q.participant r.participants (yes 4 asked yeses);
-  }
+  numberable =
+      counted g.backed.rules_ok g.limit (ltb-true q.participant r.participants (yes 4 asked yeses))
 
   pub narrows : Narrow q
   unfolding offer_questions
@@ -165,7 +162,7 @@ module _ {r : Rules} {f : Floor} {z : Records} {q : Proposal} {v : List ℕ} (a 
         rw done.answer
         (offered_answer d e (λ y. y ≡ result.answer → CarriesAct r f z v (proposed q) f' z' v' y)
         (λ filled left answer.
-        act_accept r f z v (proposed q) a.ready.sound f' z' v' e.code filled left (length result.trades)
+        act_accept r f z v (proposed q) a.ready.sound f' z' v' (Done e.code filled left (length result.trades))
         (from_four a.ready q v a.lent ∙ a.asked) answer
-        (joined done.day adds.date (adds.deals ∙ ap (λ (w : List Deal). first_deals z.count z.deals ++ w) read)) done.list)
+        (joined done.day adds.date (adds.deals ∙ ap (λ (w : List Deal). first_deals z.count z.deals ++ w) read)) done.list tt tt)
         refl)

@@ -13,7 +13,6 @@ use Rattle.market.specs.declared.Deal.{Deal}
 use Rattle.market.specs.declared.Floor.{Floor}
 use Rattle.market.specs.declared.Phase.TheVariants.{Open}
 use Rattle.market.specs.declared.Records.{Records}
-use Rattle.market.specs.declared.Refusal.{Refusal}
 use Rattle.market.specs.declared.Rules.{Rules}
 use Rattle.market.specs.Limits.{last_day, max_deals, max_securities, money_limit}
 use Rattle.market.specs.Tests.{◌and◌, within}
@@ -27,7 +26,6 @@ use Rattle.market.specs.Needs.{pieces_of}
 use Rattle.market.specs.Calendar.{second_sum}
 use Rattle.market.specs.Positions.{change, draw}
 use Rattle.market.specs.Questions.{first_no, is_free}
-use Rattle.market.specs.Refusals.{number_of}
 use Rattle.market.specs.Deals.{begins, deal_at, deal_sound, first_sum, handed, no_deal, second_paid}
 use Rattle.market.specs.Ledger.{Ledger, first_deals, ledger_of, records_sound}
 use Rattle.market.specs.Acts.{new_day, second_part}
@@ -45,7 +43,6 @@ use Rattle.deals.proofs.OpenDeals.{deal_right, few_deals}
 use Rattle.invariant.specs.Standing.{Standing}
 use Rattle.invariant.proofs.Sound.{sound_standing}
 use Rattle.invariant.proofs.Held.{held_cell, held_within}
-use Rattle.orders.proofs.Asking.{positive}
 use Rattle.dealings.specs.declared.Part.{Part}
 use Rattle.dealings.specs.Second.{Ends, Handable, Payable, Pays, paid, part_of, part_questions}
 
@@ -150,10 +147,9 @@ module _ (r : Rules) (f : Floor) (z : Records) (ready : ReadyLedger r f z) where
       unfolding act_questions is_free
       asked v = rw (cut_length no_deal z.count z.deals, h, same)
 
-      pub second_no : (y : Refusal) → number_of y ≡ first_no (part_questions f z part) → (v : List ℕ)
-          → CarriesAct r f z v (second_part place) f z v (Refused (number_of y) 0)
-      second_no y e v =
-          act_refuse r f z v (second_part place) ready.sound (number_of y) (positive y) (asked v ∙ sym e)
+      pub second_no : (n : ℕ) → 0 < n → n ≡ first_no (part_questions f z part) → (v : List ℕ)
+          → CarriesAct r f z v (second_part place) f z v (Refused n 0)
+      second_no n some e v = act_refuse r f z v (second_part place) ready.sound n some (asked v ∙ sym e)
 
       module _ (none : first_no (part_questions f z part) ≡ 0) where
         low : (y : Asset) → total_limit y ≤ money_limit
@@ -190,8 +186,8 @@ module _ (r : Rules) (f : Floor) (z : Records) (ready : ReadyLedger r f z) where
             → CarriesAct r f z v (second_part place) f' z' v (Done 0 0 0 0)
         unfolding act_effect second_paid handed
         second_done {f'} moved {z'} ends v =
-            act_accept r f z v (second_part place) ready.sound f' z' v 0 0 0 0 (asked v ∙ none) refl
-            (rw (moved, ends.date, ends.deals, same)) refl
+            act_accept r f z v (second_part place) ready.sound f' z' v (Done 0 0 0 0) (asked v ∙ none) refl
+            (rw (moved, ends.date, ends.deals, same)) refl tt tt
 
   -- a new day, of this date
   module _ (date : ℕ) (v : List ℕ) where
@@ -218,5 +214,5 @@ module _ (r : Rules) (f : Floor) (z : Records) (ready : ReadyLedger r f z) where
             (record z { date = date }) v (Done 0 0 0 0)
         unfolding act_questions act_effect begins ◌and◌
         day_begins e =
-            act_accept r f z v (new_day date) ready.sound _ _ v 0 0 0 0
-            (rw (h, lt-ltb z.date date later, le-leb date last_day e)) refl refl refl
+            act_accept r f z v (new_day date) ready.sound _ _ v (Done 0 0 0 0)
+            (rw (h, lt-ltb z.date date later, le-leb date last_day e)) refl refl refl tt tt

@@ -1,29 +1,28 @@
 -- A group on a sound floor, refused or carried through, as its contract asks for it.
-use Prim.Native.Nat.{ℕ, ◌+◌, ◌≤◌, ◌<◌}
+use Prim.Native.Nat.{ℕ, ◌≤◌, ◌<◌}
 use native.Mathlib.Omega.{arith}
-use mathlib.Core.Path.{◌≡◌, refl, ap, sym, ◌∙◌}
+use mathlib.Core.Path.{◌≡◌, ap, sym, ◌∙◌}
 use mathlib.Core.List.{List}
 use mathlib.Core.Bool.{false}
 use lib.ListN.{length, take}
 use borrow.Author.Tests.{le-leb, lt-leb}
-use Rattle.market.specs.declared.Answer.TheVariants.{Done, Refused}
+use Rattle.market.specs.declared.Answer.{Answer}
+use Rattle.market.specs.declared.Answer.TheVariants.{Refused}
 use Rattle.market.specs.declared.Floor.{Floor}
 use Rattle.market.specs.declared.Rules.{Rules}
 use Rattle.market.specs.declared.Ticket.{Ticket}
 use Rattle.market.specs.Limits.{lent_at_least, max_members, min_members}
 use Rattle.market.specs.Tests.{within}
-use Rattle.market.specs.Codes.{codes_of}
 use Rattle.market.specs.Day.{Day}
 use Rattle.market.specs.View.{day_of}
-use Rattle.market.specs.TradeList.{Trade, written}
+use Rattle.market.specs.TradeList.{written}
 use Rattle.market.specs.Answers.{Result}
 use Rattle.market.specs.Calls.{Call, linked}
-use Rattle.market.specs.Linked.{Group, group_result, members, passed, stopped}
+use Rattle.market.specs.Linked.{Group, group_result, members}
 use Rattle.market.specs.Questions.{first_no, questions}
-use Rattle.market.specs.Step.{Reply, effect}
-use Rattle.market.specs.Parts.{Carries, Ready}
+use Rattle.market.specs.Step.{effect}
+use Rattle.market.specs.Parts.{Carries, HandedBack, Ready}
 use Rattle.market.proofs.Parts.{carries_accept, carries_refuse}
-use Rattle.market.proofs.Step.{step_accepted}
 use Rattle.linked.specs.Group.{Groupable}
 
 module _ (r : Rules) (f : Floor) (l : List ℕ) (p count : ℕ) (ms : List Ticket) where
@@ -51,29 +50,17 @@ module _ (r : Rules) (f : Floor) (l : List ℕ) (p count : ℕ) (ms : List Ticke
     unfolding questions
     asked = rw (le-leb lent_at_least (length l) able.lent, able.few)
 
-    effect_is : {g : Group} → members 1 d p (take count ms) ≡ g → effect d call ≡ group_result d p g
-    unfolding effect
-    effect_is all = ap (group_result d p) all
+    -- what the members come to
+    module _ (g : Group) (all : members 1 d p (take count ms) ≡ g) where
+      same : group_result d p g ≡ effect d call
+      unfolding effect
+      same = ap (group_result d p) (sym all)
 
-    -- a member is refused
-    pub group_stops : (n at : ℕ) → members 1 d p (take count ms) ≡ stopped n at → Carries r f l call f l (Refused n at)
-    group_stops n at all =
-        let s = step_accepted d l call able.ready.sound asked in
-        let same = sym (effect_is all) in
-        record {
-          answer = ap (λ (z : Result). z.answer) same ∙ ap (λ (z : Reply). z.answer) (sym s);
-          day = ap (λ (z : Result). z.day) same ∙ ap (λ (z : Reply). z.day) (sym s);
-          list = ap (λ (z : Result). written z.trades l) same ∙ ap (λ (z : Reply). z.list) (sym s);
-          refusal = refl;
-        }
-
-    -- none is
-    pub group_passes : (f' : Floor) (filled : ℕ) (ts : List Trade)
-        → members 1 d p (take count ms) ≡ passed (day_of r f') filled ts
-        → Carries r f l call f' (written ts l) (Done (codes_of d p + 1) filled 0 (length ts))
-    group_passes f' filled ts all =
-        let same = sym (effect_is all) in
-        carries_accept r f l call able.ready.sound f' (written ts l) _ _ _ _ asked
-        (ap (λ (z : Result). z.answer) same)
-        (ap (λ (z : Result). z.day) same)
-        (ap (λ (z : Result). written z.trades l) same)
+      pub group_carries : (f' : Floor) (l' : List ℕ) (a : Answer) → a ≡ (group_result d p g).answer
+          → day_of r f' ≡ (group_result d p g).day → l' ≡ written (group_result d p g).trades l → HandedBack f a f'
+          → Carries r f l call f' l' a
+      group_carries f' l' a answer day list back =
+          carries_accept r f l call able.ready.sound f' l' a asked
+          (answer ∙ ap (λ (y : Result). y.answer) same)
+          (day ∙ ap (λ (y : Result). y.day) same)
+          (list ∙ ap (λ (y : Result). written y.trades l) same) back

@@ -32,10 +32,10 @@ use Rattle.invariant.proofs.Sound.{ready_standing}
 use Rattle.invariant.proofs.Whole.{whole_few, whole_standing}
 use Rattle.codes.specs.Numbers.{Numberable}
 use Rattle.orders.specs.Entering.{Enterable, EntersAs, member_no}
-use Rattle.orders.proofs.Asking.{counted}
+use Rattle.orders.proofs.Asking.{count_within, counted}
 use Rattle.orders.proofs.Calling.{enters, in_lots, numberable}
 use Rattle.linked.specs.Group.{Groupable}
-use Rattle.linked.proofs.Calling.{group_passes, group_stops}
+use Rattle.linked.proofs.Calling.{group_carries}
 use Rattle.linked.proofs.Lent.{lent_from, put_back, returned, returned_written, written_length}
 use Rattle.linked.proofs.Taken.{before, before_none, member_accepted, member_few, member_refused}
 
@@ -91,7 +91,7 @@ module _ (s : From) (able : GroupableFrom s) where
   standing_before = ready_standing able.ready
 
   few_before : s.floor.count ≤ max_waiting
-  few_before = counted s.rules s.floor standing_before
+  few_before = count_within s.rules s.floor standing_before
 
   some_members : 0 < s.count
   some_members = omega (arith, within_low min_members max_members s.count able.few)
@@ -233,17 +233,14 @@ module _ {s : From} {f : Floor} {l : List ℕ} {filled made i : ℕ} (t : Turn s
         stop.1,
         put_back s.list l kept t.trades at (omega (arith, t.number)) (omega (arith, turn_sums.1)) t.list saved,
       )
-      (group_stops s.rules s.floor s.list s.owner s.count s.members t.able number place stop.0)
+      (group_carries s.rules s.floor s.list s.owner s.count s.members t.able (stopped number place) stop.0 s.floor s.list
+      (Refused number place) refl refl refl refl)
 
   -- there are members, so that the participant is known
   pub turns_owner : length (taken s) ≤ i → Numberable s.rules.participants s.floor.codes s.owner
   turns_owner h =
       let st = standing_before s t.able in
-      record {
-        few = st.backed.rules_ok.participants;
-        codes = st.limit;
-        participant = t.owner (omega (arith, all_taken, some_members s t.able));
-      }
+      counted st.backed.rules_ok st.limit (t.owner (omega (arith, all_taken, some_members s t.able)))
 
   pub turns_end : length (taken s) ≤ i → (code : ℕ) → code ≡ get_or s.floor.codes s.owner 0 + 1
       → CarriesFrom s f l (Done code filled 0 made)
@@ -255,4 +252,5 @@ module _ {s : From} {f : Floor} {l : List ℕ} {filled made i : ℕ} (t : Turn s
       ∙ ap (λ (x : List Ticket). before filled t.trades (members (i + 1) (day_at s f) s.owner x)) none
       ∙ rw (add-zero filled, append-nil t.trades) in
       rw (first, t.number, t.list)
-      (group_passes s.rules s.floor s.list s.owner s.count s.members t.able f filled t.trades all-is)
+      (group_carries s.rules s.floor s.list s.owner s.count s.members t.able (passed (day_at s f) filled t.trades) all-is f _ _ refl
+      refl refl tt)

@@ -5,7 +5,8 @@ use mathlib.Core.Path.{◌≡◌, refl, ap, sym, ◌∙◌}
 use mathlib.Core.List.{List}
 use mathlib.Core.Bool.{true}
 use lib.ListN.{length}
-use Rattle.market.specs.declared.Answer.TheVariants.{Done, Refused}
+use Rattle.market.specs.declared.Answer.{Answer}
+use Rattle.market.specs.declared.Answer.TheVariants.{Refused}
 use Rattle.market.specs.declared.Floor.{Floor}
 use Rattle.market.specs.declared.Rules.{Rules}
 use Rattle.market.specs.Day.{Day}
@@ -15,7 +16,7 @@ use Rattle.market.specs.TradeList.{written}
 use Rattle.market.specs.Calls.{Call}
 use Rattle.market.specs.Questions.{first_no, questions}
 use Rattle.market.specs.Step.{Reply, effect}
-use Rattle.market.specs.Parts.{Carries}
+use Rattle.market.specs.Parts.{Carries, HandedBack}
 use Rattle.market.proofs.Step.{step_accepted, step_refused}
 
 module _ (r : Rules) (f : Floor) (l : List ℕ) (c : Call) (t : sound (day_of r f) ≡ true) where
@@ -34,15 +35,15 @@ module _ (r : Rules) (f : Floor) (l : List ℕ) (c : Call) (t : sound (day_of r 
         refusal = refl;
       }
 
-  -- every question is answered "yes", and this is what the effect says
-  pub carries_accept : (f' : Floor) (l' : List ℕ) (code filled left trades : ℕ) → first_no (questions d (length l) c) ≡ 0
-      → Done code filled left trades ≡ (effect d c).answer → day_of r f' ≡ (effect d c).day
-      → l' ≡ written (effect d c).trades l → Carries r f l c f' l' (Done code filled left trades)
-  carries_accept f' l' code filled left trades e answer day list =
+  -- every question is answered "yes", and this is what the effect says; a group's may be a refusal
+  pub carries_accept : (f' : Floor) (l' : List ℕ) (a : Answer) → first_no (questions d (length l) c) ≡ 0
+      → a ≡ (effect d c).answer → day_of r f' ≡ (effect d c).day → l' ≡ written (effect d c).trades l → HandedBack f a f'
+      → Carries r f l c f' l' a
+  carries_accept f' l' a e answer day list back =
       let s = step_accepted d l c t e in
       record {
         answer = answer ∙ ap (λ (z : Reply). z.answer) (sym s);
         day = day ∙ ap (λ (z : Reply). z.day) (sym s);
         list = list ∙ ap (λ (z : Reply). z.list) (sym s);
-        refusal = tt;
+        refusal = back;
       }

@@ -26,12 +26,14 @@ use Rattle.market.specs.Questions.{Question, ask, covered, entry_questions, fill
 use Rattle.market.specs.Refusals.{number_of}
 use Rattle.market.specs.Sound.{price_sound}
 use Rattle.market.proofs.Logic.{within_high}
+use Rattle.market.proofs.Codes.{CodesWithin}
 use Rattle.market.proofs.Known.{OrderOk, RulesOk, price_bounds}
 use Rattle.market.proofs.Lists.{all_at}
 use Rattle.market.proofs.Questions.{all_yes, hides, passes}
 use Rattle.market.proofs.View.{cut_at, first_length, first_take}
 use Rattle.std.proofs.lemmas.List.{get_or_past}
 use Rattle.invariant.specs.Standing.{Standing}
+use Rattle.codes.specs.Numbers.{Numberable, numbered_with}
 use Rattle.matching.specs.Orders.{FewLots}
 use Rattle.matching.proofs.Ready.{few_waiting}
 use Rattle.waiting.specs.Claims.{Reckonable}
@@ -43,12 +45,25 @@ pub positive : (q : Refusal) → 0 < number_of q
 positive Unsound = omega arith
 positive _ = omega arith
 
+-- a known participant's order can be numbered
+pub counted : {r : Rules} {codes : List ℕ} {p : ℕ} → RulesOk r → CodesWithin r.participants codes → p < r.participants
+    → Numberable r.participants codes p
+counted ok codes h = record { few = ok.participants; codes = codes; participant = h }
+
+-- numbering changes nothing of what question 15 reads
+pub numbered_alike : (k : TimeInForce) (w : List Order) (n : ℕ) (codes : List ℕ) (p : ℕ) (m : Ticket)
+    → fillable_in k w (numbered_with n codes (claim_with p m)) ≡ fillable_in k w (claim_with p m)
+unfolding fitting fits
+numbered_alike Kept w n codes p m = refl
+numbered_alike ImmediateOrCancel w n codes p m = refl
+numbered_alike FillOrKill w n codes p m = refl
+
 module _ (r : Rules) (f : Floor) where
   abbrev d : Day
   d = day_of r f
 
-  pub counted : Standing d → f.count ≤ max_waiting
-  counted st = omega (arith, st.room, first_length f.count f.orders)
+  pub count_within : Standing d → f.count ≤ max_waiting
+  count_within st = omega (arith, st.room, first_length f.count f.orders)
 
   -- each counted order has its place: past the places is one of no lots
   inside : Standing d → f.count ≤ length f.orders
@@ -88,13 +103,12 @@ module _ (r : Rules) (f : Floor) where
       room_is ImmediateOrCancel = refl
       room_is FillOrKill = refl
 
-      -- neither need nor fit reads code or arrival
-      fillable_is : (k : TimeInForce) → fillable_in k d.waiting (claim_with p m) ≡ fillable k d (entry_of d p m)
-      unfolding fitting fits
-      fillable_is Kept = refl
-      fillable_is ImmediateOrCancel = refl
-      fillable_is FillOrKill = refl
+      fillable_is : (k : TimeInForce) (e : Order) → fillable k d e ≡ fillable_in k d.waiting e
+      fillable_is Kept e = refl
+      fillable_is ImmediateOrCancel e = refl
+      fillable_is FillOrKill e = refl
 
+      -- no need reads code or arrival
       covered_is : covered d (claim_with p m) ≡ covered d (entry_of d p m)
       unfolding covered
       covered_is = refl
@@ -138,4 +152,6 @@ module _ (r : Rules) (f : Floor) where
 
         pub only_fifteen : first_no (ask 15 (fillable_in k d.waiting (claim_with p m)) ∷ []) ≡ order_no d p m a k
         unfolding order_questions
-        only_fifteen = rw (fillable_is k) (sym (passes asked last (all_yes asked tt (sym none))))
+        only_fifteen =
+            rw (← numbered_alike k d.waiting r.participants f.codes p m, ← fillable_is k (entry_of d p m))
+            (sym (passes asked last (all_yes asked tt (sym none))))

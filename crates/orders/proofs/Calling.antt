@@ -39,7 +39,7 @@ use Rattle.invariant.proofs.Placed.{kept_placeable}
 use Rattle.invariant.proofs.Sound.{ready_standing}
 use Rattle.codes.specs.Numbers.{Numberable}
 use Rattle.orders.specs.Entering.{Enterable, Enters, order_no}
-use Rattle.orders.proofs.Asking.{counted, positive}
+use Rattle.orders.proofs.Asking.{count_within, counted, positive}
 
 -- what the questions of an order or a member tell, each answered "yes"
 module _ (r : Rules) (f : Floor) (standing : Standing (day_of r f)) (p : ℕ) (t : Ticket) (a : Access) (k : TimeInForce)
@@ -53,11 +53,9 @@ module _ (r : Rules) (f : Floor) (standing : Standing (day_of r f)) (p : ℕ) (t
 
   pub numberable : Numberable r.participants f.codes p
   unfolding order_questions
-  numberable = record {
-    few = standing.backed.rules_ok.participants;
-    codes = standing.limit;
-    participant = ltb-true p r.participants (yes 4 (order_questions d p t a k) yeses);
-  }
+  numberable =
+      counted standing.backed.rules_ok standing.limit
+      (ltb-true p r.participants (yes 4 (order_questions d p t a k) yeses))
 
   pub in_lots : t.lots ≤ max_lots
   unfolding order_questions
@@ -78,7 +76,7 @@ module _ (r : Rules) (f : Floor) (standing : Standing (day_of r f)) (p : ℕ) (t
     access = a;
     entry = entry;
     asked = none;
-    lent = omega (arith, lent, counted r f standing);
+    lent = omega (arith, lent, count_within r f standing);
   }
 
 -- an order, with the list v lent
@@ -128,10 +126,10 @@ module _ (r : Rules) (f : Floor) (ready : Ready r f) (p : ℕ) (t : Ticket) (k :
               let same : effect d2 call ≡ placed d2 e =
               ap (λ (z : Order). taken d2 z k) (sym entry) ∙ taken_waits d2 e k collects in
               rw answer
-              (carries_accept r f v call ready.sound f' v _ _ _ _ (from_four ∙ none)
+              (carries_accept r f v call ready.sound f' v _ (from_four ∙ none)
               (sym (ap (λ (z : Result). z.answer) same))
               (day ∙ sym (ap (λ (z : Result). z.day) same))
-              (sym (ap (λ (z : Result). written z.trades v) same)))
+              (sym (ap (λ (z : Result). written z.trades v) same)) tt)
 
           -- otherwise it is matched
           pub opens : is_collecting f.phase ≡ false → f.phase ≡ Open
@@ -147,7 +145,7 @@ module _ (r : Rules) (f : Floor) (ready : Ready r f) (p : ℕ) (t : Ticket) (k :
               let same : effect d2 call ≡ entered d2 e k =
               ap (λ (z : Order). taken d2 z k) (sym entry) ∙ taken_matched d2 e k matched in
               rw y.answer
-              (carries_accept r f v call ready.sound f' v' _ _ _ _ (from_four ∙ none)
+              (carries_accept r f v call ready.sound f' v' _ (from_four ∙ none)
               (sym (ap (λ (z : Result). z.answer) same))
               (y.day ∙ sym (ap (λ (z : Result). z.day) same))
-              (y.list ∙ sym (ap (λ (z : Result). written z.trades v) same)))
+              (y.list ∙ sym (ap (λ (z : Result). written z.trades v) same)) tt)

@@ -69,5 +69,5 @@ module _ (r : Rules) (f : Floor) (p c : ℕ) (ready : Ready r f) where
           → Carries r f [] (cancel p c) f' [] (Done c 0 0 0)
       unfolding questions effect
       cancel_carries {f'} h leaves =
-          carries_accept r f [] (cancel p c) ready.sound f' [] c 0 0 0 (rw (lt-ltb p r.participants h, ← there)) refl
-          (leaves ∙ ap (λ (z : Index). leave d (index_in z)) there) refl
+          carries_accept r f [] (cancel p c) ready.sound f' [] (Done c 0 0 0) (rw (lt-ltb p r.participants h, ← there)) refl
+          (leaves ∙ ap (λ (z : Index). leave d (index_in z)) there) refl tt

@@ -32,7 +32,7 @@ use Rattle.invariant.proofs.Placed.{closing_placeable}
 use Rattle.invariant.proofs.Sound.{ready_standing}
 use Rattle.codes.specs.Numbers.{Numberable}
 use Rattle.orders.specs.Entering.{open_questions}
-use Rattle.orders.proofs.Asking.{positive}
+use Rattle.orders.proofs.Asking.{counted, positive}
 use Rattle.waiting.specs.Claims.{Reckonable}
 use Rattle.waiting.proofs.Claims.{known_reckons}
 use Rattle.session.specs.Asking.{closing_claim, later_questions}
@@ -111,11 +111,7 @@ module _ (r : Rules) (f : Floor) (ready : Ready r f) (p : ℕ) (side : Side) (s 
     unfolding closing_questions
     numberable =
         let st = ready_standing ready in
-        record {
-          few = st.backed.rules_ok.participants;
-          codes = st.limit;
-          participant = ltb-true p r.participants (yes 4 all yeses);
-        }
+        counted st.backed.rules_ok st.limit (ltb-true p r.participants (yes 4 all yeses))
 
     module _ {o : Order} (entry : o ≡ closing_of day p side s n) where
       pub placeable : Placeable day o
@@ -126,4 +122,4 @@ module _ (r : Rules) (f : Floor) (ready : Ready r f) (p : ℕ) (side : Side) (s 
       unfolding questions effect placed
       waits {f'} {x} answer after =
           rw answer
-          (carries_accept r f [] call ready.sound f' [] _ _ _ _ (sym none) (rw entry) (rw entry at after) refl)
+          (carries_accept r f [] call ready.sound f' [] _ (sym none) (rw entry) (rw entry at after) refl tt)

@@ -32,7 +32,7 @@ use Rattle.market.proofs.Codes.{CodesWithin, numbered_none}
 use Rattle.market.proofs.Parts.{carries_accept, carries_refuse}
 use Rattle.invariant.specs.Standing.{Standing}
 use Rattle.invariant.proofs.Sound.{ready_standing}
-use Rattle.orders.proofs.Asking.{counted}
+use Rattle.orders.proofs.Asking.{count_within}
 use Rattle.pairing.specs.declared.Tally.{Tally}
 use Rattle.pairing.specs.Leaving.{all_left}
 use Rattle.session.specs.Sessions.{Endable, PairsAll, end_access, next_phase, paired_from, phase_of, start_access, starts_at}
@@ -97,11 +97,11 @@ module _ {r : Rules} {f : Floor} (g : Ready r f) where
       unfolding all_leave
       started {f'} e left =
           let same = start_effect z d (ready_standing g) e in
-          carries_accept r f [] (start_of z) g.sound (record f' { phase = phase_of z }) [] _ _ _ _
+          carries_accept r f [] (start_of z) g.sound (record f' { phase = phase_of z }) [] _
           (start_asks z d 0 ∙ rw (admitted, e))
           (sym (ap (λ (w : Result). w.answer) same))
           (ap (λ (w : Day). with_phase w (phase_of z)) left ∙ sym (ap (λ (w : Result). w.day) same))
-          (sym (ap (λ (w : Result). written w.trades []) same))
+          (sym (ap (λ (w : Result). written w.trades []) same)) tt
 
   -- the end of a session
   module _ (z : Session) (v : List ℕ) where
@@ -121,7 +121,7 @@ module _ {r : Rules} {f : Floor} (g : Ready r f) where
         endable = record {
           standing = ready_standing g;
           phase = ends_phase z f.phase ends;
-          lent = omega (arith, lent, counted r f (ready_standing g));
+          lent = omega (arith, lent, count_within r f (ready_standing g));
         }
 
         -- the orders are paired, and the rest comes off
@@ -133,8 +133,8 @@ module _ {r : Rules} {f : Floor} (g : Ready r f) where
             let same = end_effect z r f in
             let lots : c.lots ≡ lots_of whole.trades = done.lots ∙ zero-add _ in
             let count : c.trades ≡ length whole.trades = done.trades ∙ zero-add _ in
-            carries_accept r f v (end_of z) g.sound (record f' { phase = next_phase z }) v' _ _ _ _
+            carries_accept r f v (end_of z) g.sound (record f' { phase = next_phase z }) v' _
             (end_asks z d (length v) ∙ rw (le-leb lent_at_least (length v) lent, ends))
             (rw (lots, count, same))
             (ap (λ (w : Day). with_phase w (next_phase z)) (left ∙ ap all_left done.day) ∙ sym (ap (λ (w : Result). w.day) same))
-            (done.list ∙ sym (ap (λ (w : Result). written w.trades v) same))
+            (done.list ∙ sym (ap (λ (w : Result). written w.trades v) same)) tt

@@ -26,7 +26,7 @@ use Rattle.matching.specs.Orders.{FewLots}
 use Rattle.matching.specs.Written.{trade_written}
 use Rattle.matching.proofs.Ready.{few_waiting}
 use Rattle.matching.proofs.Writing.{written_length, written_next, written_from}
-use Rattle.orders.proofs.Asking.{counted}
+use Rattle.orders.proofs.Asking.{count_within}
 use Rattle.pairing.specs.declared.Tally.{Tally}
 use Rattle.pairing.specs.Pairing.{Counts, Pairable, Pairs}
 use Rattle.session.specs.Sessions.{Endable, PairsAll, no_tally, paired_from, phase_of, terms_of, terms_with}
@@ -80,7 +80,7 @@ rounds_start {z} {r} {f} {v} h =
     record {
       standing = h.standing;
       phase = h.phase;
-      counts = record { most = omega (arith, counted r f h.standing); few = omega arith; lent = omega (arith, h.lent) };
+      counts = record { most = omega (arith, count_within r f h.standing); few = omega arith; lent = omega (arith, h.lent) };
       day = ap (λ (x : Paired). x.day) same;
       trades = zero-add _ ∙ ap (λ (x : Paired). length x.trades) same;
       sum = zero-add _ ∙ ap (λ (x : Paired). lots_of x.trades) same;

@@ -2,6 +2,7 @@
 use native.Mathlib.Omega.{arith}
 use mathlib.Core.Path.{sym}
 use Rattle.amounts.proofs.Answers.{fails, holds}
+use Rattle.orders.proofs.Asking.{positive}
 use Rattle.dealings.proofs.Second.{rules_right, second_done, second_few, second_no, second_none, second_payable, second_pays}
 use Rattle.dealings.proofs.Second.{second_place, second_right}
 use Rattle.dealings.proofs.second_part.Goals as goal
@@ -33,7 +34,7 @@ part_no-requires c =
 pub returns-in-Err : goal.returns-in-Err
 returns-in-Err c =
     rw c.from-in-Err.ensures
-    (second_no _ _ _ c.requires _ (holds c.within.ensures c.if-not-within.false) c.in-Err.refusal
+    (second_no _ _ _ c.requires _ (holds c.within.ensures c.if-not-within.false) _ (positive c.in-Err.refusal)
     (rw c.part_of-part.ensures at c.in-Err.ensures))
 
 pub pay-requires : goal.pay-requires

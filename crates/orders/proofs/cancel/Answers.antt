@@ -1,6 +1,6 @@
 -- `orders::cancel` meets its contract: the participant is known and the order is found, and it leaves.
 use Rattle.invariant.proofs.Sound.{ready_standing}
-use Rattle.orders.proofs.Asking.{counted}
+use Rattle.orders.proofs.Asking.{count_within}
 use Rattle.orders.proofs.Cancelling.{cancel_carries, cancel_none, cancel_unknown, found_waits}
 use Rattle.orders.proofs.cancel.Goals as goal
 
@@ -11,7 +11,7 @@ returns-then-rules-participant c =
     (cancel_unknown a.rules.now a.floor.now a.participant a.code c.requires c.if-rules-participant.true)
 
 pub find-requires : goal.find-requires
-find-requires c = counted c.args.rules.now c.args.floor.now (ready_standing c.requires)
+find-requires c = count_within c.args.rules.now c.args.floor.now (ready_standing c.requires)
 
 pub returns-in_default : goal.returns-in_default
 returns-in_default c =

@@ -1,6 +1,6 @@
 -- `orders::refusal_of` meets its contract: questions 4 to 14, then 15 of the claim.
 use Rattle.std.proofs.Common.{rules}
-use Rattle.orders.proofs.Asking.{counted, few_lent, in_lots, lent_waiting, no_asked, only_fifteen}
+use Rattle.orders.proofs.Asking.{count_within, few_lent, in_lots, lent_waiting, no_asked, only_fifteen}
 use Rattle.orders.proofs.refusal_of.Goals as goal
 
 pub order_no-requires : goal.order_no-requires
@@ -18,7 +18,7 @@ claim_of-claim-requires c =
     in_lots a.rules.now a.floor.now a.participant a.ticket a.access a.force c.in_ok-order_no.ensures
 
 pub shared_ref_as_front-is_fillable : goal.shared_ref_as_front-is_fillable
-shared_ref_as_front-is_fillable c = counted c.args.rules.now c.args.floor.now c.requires
+shared_ref_as_front-is_fillable c = count_within c.args.rules.now c.args.floor.now c.requires
 
 pub is_fillable-requires : goal.is_fillable-requires
 is_fillable-requires c = few_lent c.args.rules.now c.args.floor.now c.requires
