@@ -10,10 +10,11 @@ use Rattle.market.specs.TradeList.{written}
 use Rattle.market.specs.Matching.{Filled, fill}
 use Rattle.invariant.specs.Standing.{InFlight}
 use Rattle.matching.specs.declared.Matched.{Matched}
+use Rattle.matching.specs.Orders.{coded}
 
--- the entry e is being matched, and there is room for a trade with each waiting order
+-- once its code is given, the entry e is being matched, and there is room for a trade with each waiting order
 pub record Fillable (r : Rules) (f : Floor) (e : Order) (v : List ℕ) : Type 0 where
-  pub flight : InFlight (day_of r f) e
+  pub flight : InFlight (day_of r (coded f e)) e
   pub lent : numbers_per_trade * f.count ≤ length v
 
 -- day, lots left, trades and lent list are those of a fill x of the definition
@@ -23,5 +24,6 @@ pub record FilledAs (x : Filled) (r : Rules) (e : Order) (v : List ℕ) (f' : Fl
   pub count : m.trades ≡ length x.trades
   pub list : v' ≡ written x.trades v
 
+-- it is filled on the floor with its code given
 abbrev pub Fills : Rules → Floor → Order → (v : List ℕ) → Floor → (v' : List ℕ) → Matched → Type 0
-Fills r f e v f' v' m = FilledAs (fill (day_of r f) e) r e v f' v' m
+Fills r f e v f' v' m = FilledAs (fill (day_of r (coded f e)) e) r e v f' v' m

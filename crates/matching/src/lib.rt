@@ -267,11 +267,12 @@ pub fn take_off(orders: &mut [Order], count: usize, at: usize, lots: u64) -> usi
     count - 1
 }
 
-// The fill of an entry whose code is given and whose need is blocked.
+// The fill of an entry whose need is blocked; its code is given here.
 pub fn fill(floor: &mut Floor, rules: &Rules, e: Order, trades: &mut [u64]) -> Matched
     requires { Fillable rules.now floor.old e trades.old }
     ensures { Fills rules.now floor.old e trades.old floor.new trades.new result }
 {
+    floor.codes[e.participant as usize] = e.code;
     let mut left = lots_of(e);
     let mut made: usize = 0;
     // A counter order that fits has a rank below this.

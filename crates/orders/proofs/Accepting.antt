@@ -13,7 +13,7 @@ use Rattle.market.specs.declared.Rules.{Rules}
 use Rattle.market.specs.declared.TimeInForce.{TimeInForce}
 use Rattle.market.specs.declared.TimeInForce.TheVariants.{FillOrKill, ImmediateOrCancel, Kept}
 use Rattle.market.specs.declared.Turnover.{Turnover}
-use Rattle.market.specs.Limits.{max_lots, max_participants, max_price, max_waiting}
+use Rattle.market.specs.Limits.{max_lots, max_price, max_waiting}
 use Rattle.market.specs.Day.{Day, with_codes, with_lots}
 use Rattle.market.specs.View.{day_of}
 use Rattle.market.specs.Codes.{codes_of}
@@ -32,7 +32,8 @@ use Rattle.invariant.specs.Standing.{InFlight, EntryOk}
 use Rattle.invariant.proofs.Flight.{FewTrades, fill_few, fill_flight}
 use Rattle.invariant.proofs.Entry.{flight_starts}
 use Rattle.matching.specs.declared.Matched.{Matched}
-use Rattle.matching.specs.Filling.{FilledAs, Fillable}
+use Rattle.matching.specs.Orders.{coded}
+use Rattle.matching.specs.Filling.{Fillable, Fills}
 use Rattle.waiting.specs.Claims.{Blockable, Freeable, moved}
 use Rattle.waiting.proofs.Claims.{blocks, frees, moved_day}
 use Rattle.orders.specs.Entering.{Enterable, EntersAs}
@@ -52,10 +53,6 @@ record Passed (d : Day) (e : Order) (k : TimeInForce) : Type 0 where
 priced_limit : (r : Rules) (t : List Turnover) (e : Order) → EntryOk r e → limit_of t e ≤ max_price
 priced_limit r t e h =
     omega (arith, kept_limit t e (is_kept_lem r e.security e.kind h), (kept_price_lem r e.security e.kind h).1)
-
--- the floor with the entry's code given
-abbrev pub coded : Floor → Order → Floor
-coded f e = record f { codes = set f.codes e.participant e.code }
 
 module _ {r : Rules} {f : Floor} {e : Order} {k : TimeInForce} {v : List ℕ} (a : Enterable r f e k v) where
   abbrev d : Day
@@ -80,37 +77,34 @@ module _ {r : Rules} {f : Floor} {e : Order} {k : TimeInForce} {v : List ℕ} (a
         room = yes 12 qs y;
       })
 
-  pub known : e.participant < max_participants
-  known = omega (arith, passed.participant, a.standing.backed.rules_ok.participants)
-
-  abbrev f1 : Floor
-  f1 = coded f e
-
-  pub blockable : Blockable (day_of r f1) e
+  pub blockable : Blockable d e
   unfolding covered
   blockable =
       let p = passed in
-      blocks (day_of r f1) e [] (record { rules_ok = a.standing.backed.rules_ok; held = a.standing.backed.held }) p.participant
-      p.security (priced_limit r f.turnover e p.priced) p.top p.covers
+      blocks d e [] a.standing.backed p.participant p.security (priced_limit r f.turnover e p.priced) p.top p.covers
 
-  day_admitted : day_of r (moved block r f1 e) ≡ admitted d e
+  -- the need is blocked before the code is given, and no need reads codes
+  day_admitted : day_of r (coded (moved block r f e) e) ≡ admitted d e
   unfolding admitted block_for
   day_admitted =
-      moved_day block r f1 e
+      ap (λ (x : Day). with_codes x (set f.codes e.participant e.code)) (moved_day block r f e)
       ∙ ap (λ (n : ℕ). block_for (with_codes d (set f.codes e.participant n)) e) passed.code
 
   -- its need is blocked
-  module _ {f2 : Floor} (blocked : f2 ≡ moved block r f1 e) where
-    starts : InFlight (day_of r f2) e
+  module _ {f2 : Floor} (blocked : f2 ≡ moved block r f e) where
+    starts : InFlight (day_of r (coded f2 e)) e
     starts = rw blocked (subst (λ (x : Day). InFlight x e) (sym day_admitted) passed.flight)
 
     pub fillable : Fillable r f2 e v
     fillable = record { flight = starts; lent = rw blocked a.lent }
 
     -- and it is matched
-    module _ {f3 : Floor} {v2 : List ℕ} {m : Matched} (g : FilledAs (fill (day_of r f2) e) r e v f3 v2 m) where
+    module _ {f3 : Floor} {v2 : List ℕ} {m : Matched} (g : Fills r f2 e v f3 v2 m) where
+      abbrev d2 : Day
+      d2 = day_of r (coded f2 e)
+
       abbrev filled : Filled
-      filled = fill (day_of r f2) e
+      filled = fill d2 e
 
       abbrev d3 : Day
       d3 = day_of r f3
@@ -118,8 +112,8 @@ module _ {r : Rules} {f : Floor} {e : Order} {k : TimeInForce} {v : List ℕ} (a
       abbrev rest : Order
       rest = with_lots e m.left
 
-      few : FewTrades (day_of r f2) e filled
-      few = fill_few (day_of r f2) e
+      few : FewTrades d2 e filled
+      few = fill_few d2 e
 
       left_is : m.left ≡ filled.entry.lots
       left_is = ap (λ (o : Order). o.lots) g.entry
@@ -130,7 +124,7 @@ module _ {r : Rules} {f : Floor} {e : Order} {k : TimeInForce} {v : List ℕ} (a
       landed : InFlight d3 rest
       landed =
           subst (λ (x : Day). InFlight x rest) (sym g.day)
-          (subst (λ (o : Order). InFlight filled.day o) (sym g.entry) (fill_flight (day_of r f2) e starts))
+          (subst (λ (o : Order). InFlight filled.day o) (sym g.entry) (fill_flight d2 e starts))
 
       pub left_top : m.left ≤ max_lots
       left_top = landed.top
@@ -147,7 +141,7 @@ module _ {r : Rules} {f : Floor} {e : Order} {k : TimeInForce} {v : List ℕ} (a
       pub index_left : (n : ℕ) → n ≡ left_waiting k rest → 0 < n → f3.count < max_waiting
       index_left n en h =
           let count : length d3.waiting ≡ length filled.day.waiting = ap (λ (x : Day). length x.waiting) g.day in
-          let own : length (day_of r f2).waiting ≡ length d.waiting = rw blocked in
+          let own : length d2.waiting ≡ length d.waiting = rw blocked in
           go k passed.room (omega (arith, en)) count (first_length f3.count f3.orders) (omega (arith, few.count, own))
         where
           go : (k : TimeInForce) → room_for k d ≡ true → 0 < left_waiting k rest

@@ -179,8 +179,8 @@ fn left_waiting(force: TimeInForce, rest: Order) -> u64
     }
 }
 
-// The entry of an order whose questions are all answered "yes": its need is blocked and it is matched, and what is left
-// of it waits or is freed.
+// The entry of an order whose questions are all answered "yes": its need is blocked, its code is given and it is matched, and
+// what is left of it waits or is freed.
 pub fn enter(
     floor: &mut Floor,
     rules: &Rules,
@@ -191,7 +191,6 @@ pub fn enter(
     requires { Enterable rules.now floor.old entry force trades.old }
     ensures { Enters rules.now floor.old entry force trades.old floor.new trades.new result }
 {
-    floor.codes[entry.participant as usize] = entry.code;
     block_need(floor, rules, entry);
     let matched = fill(floor, rules, entry, trades);
     let rest = with_lots(entry, matched.left);

@@ -1,6 +1,7 @@
 -- `matching::fill` meets its contract: the search keeps the best of the orders passed, and each turn leaves what the
 -- definition's fill comes to as it was.
 use Prim.Native.Nat.{◌-◌}
+use Rattle.matching.specs.Orders.{coded}
 use Rattle.matching.proofs.Going.{Going}
 use Rattle.matching.proofs.Search.{Seeks}
 use Rattle.matching.proofs.fill.Given as goal
@@ -13,7 +14,7 @@ decreases-search l = l.count - l.i
 
 abbrev pub invariant-fill : goal.invariant-fill
 invariant-fill l =
-    Going (record { r = l.rules; f = l.fn.floor; e = l.e; v = l.fn.trades }) l.floor l.trades l.left l.made
+    Going (record { r = l.rules; f = coded l.fn.floor l.e; e = l.e; v = l.fn.trades }) l.floor l.trades l.left l.made
 
 abbrev pub decreases-fill : goal.decreases-fill
 decreases-fill l = l.left

@@ -2,15 +2,9 @@
 use Rattle.std.proofs.Common.{◌≡◌, ap, arith, length, rules}
 use Rattle.market.specs.declared.Floor.{Floor}
 use Rattle.market.specs.Limits.{max_waiting}
-use Rattle.orders.proofs.Accepting.{blockable, fillable, freeable, gives_done, gives_waits, index_left, known, left_top, part}
+use Rattle.orders.proofs.Accepting.{blockable, fillable, freeable, gives_done, gives_waits, index_left, left_top, part}
 use Rattle.orders.proofs.enter.Goals.{then-waits-gt0, else-waits-gt0}
 use Rattle.orders.proofs.enter.Goals as goal
-
-pub offset_bounds-floor-entry : goal.offset_bounds-floor-entry
-offset_bounds-floor-entry c = omega (arith, known c.requires)
-
-pub bounds-floor-entry : goal.bounds-floor-entry
-bounds-floor-entry c = known c.requires
 
 pub block_need-requires : goal.block_need-requires
 block_need-requires c = blockable c.requires
