@@ -1,40 +1,22 @@
 -- From the search for an order, and from its leaving, to the contract of the call.
-use Prim.Native.Nat.{ℕ, suc, ◌≤◌, ◌<◌}
+use Prim.Native.Nat.{ℕ, ◌≤◌, ◌<◌}
 use native.Mathlib.Omega.{arith}
-use mathlib.Core.Path.{◌≡◌, refl, ap, sym, ◌∙◌, subst}
-use mathlib.Core.List.{List, [], ◌∷◌}
-use mathlib.Core.Bool.{Bool, true, false, cond}
+use mathlib.Core.Path.{◌≡◌, refl, ap, sym, ◌∙◌}
+use mathlib.Core.List.{[]}
 use Rattle.std.proofs.Common.{Option, Some, None}
-use lib.ListN.{length}
 use borrow.Author.Tests.{le-ltb, lt-ltb}
 use Rattle.market.specs.declared.Answer.TheVariants.{Done, Refused}
 use Rattle.market.specs.declared.Floor.{Floor}
-use Rattle.market.specs.declared.Order.{Order}
 use Rattle.market.specs.declared.Rules.{Rules}
 use Rattle.market.specs.Day.{Day}
 use Rattle.market.specs.View.{day_of}
-use Rattle.market.specs.Waiting.{Index, first_index, later, leave, nowhere, index_in, index_of, somewhere}
+use Rattle.market.specs.Waiting.{Index, leave, nowhere, index_in, index_of, somewhere}
 use Rattle.market.specs.Calls.{cancel}
 use Rattle.market.specs.Questions.{questions}
 use Rattle.market.specs.Step.{effect}
 use Rattle.market.specs.Parts.{Carries, Ready}
 use Rattle.market.proofs.Parts.{carries_accept, carries_refuse}
-use Rattle.market.proofs.View.{first_length}
 use Rattle.orders.specs.Finding.{found_at}
-
--- a place that is found is in the list
-abbrev Inside : ℕ → Index → Type 0
-Inside n nowhere = Unit {0}
-Inside n (somewhere i) = i < n
-
-cell_inside : (f : Order → Bool) (w : List Order) → Inside (length w) (first_index f w)
-cell_inside f [] = tt
-cell_inside f (o ∷ w) = go (f o) (first_index f w) (cell_inside f w)
-  where
-    go : (k : Bool) (x : Index) → Inside (length w) x → Inside (suc (length w)) (cond k (somewhere 0) (later x))
-    go true x h = omega arith
-    go false nowhere h = tt
-    go false (somewhere i) h = omega arith
 
 -- a cancellation on a sound floor
 module _ (r : Rules) (f : Floor) (p c : ℕ) (ready : Ready r f) where
@@ -58,12 +40,6 @@ module _ (r : Rules) (f : Floor) (p c : ℕ) (ready : Ready r f) where
     module _ {i : ℕ} (found : x ≡ Some i) where
       there : somewhere i ≡ index_of p c d.waiting
       there = sym (ap found_at found) ∙ place
-
-      pub found_waits : i < f.count
-      unfolding index_of
-      found_waits =
-          let h : i < length d.waiting = subst (Inside (length d.waiting)) (sym there) (cell_inside _ d.waiting) in
-          omega (arith, first_length f.count f.orders)
 
       pub cancel_carries : {f' : Floor} → p < r.participants → day_of r f' ≡ leave d i
           → Carries r f [] (cancel p c) f' [] (Done c 0 0 0)

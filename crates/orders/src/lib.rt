@@ -16,7 +16,7 @@ ghost use Rattle.invariant.specs.Standing.{Standing};
 ghost use Rattle.matching.specs.Orders.{FewLots};
 ghost use Rattle.codes.specs.Numbers.{Numberable};
 ghost use Rattle.orders.specs.Entering.{Askable, Enterable, Enters, claim_with, fillable_in, later_questions, open_questions, order_no as orderNo, room_with};
-ghost use Rattle.orders.specs.Finding.{found_at, is_own as ownOrder};
+ghost use Rattle.orders.specs.Finding.{Inside, found_at, is_own as ownOrder};
 
 use amounts::{price_sound, within};
 use codes::numbered;
@@ -238,9 +238,10 @@ fn is_own(participant: u64, code: u64, o: &Order) -> bool
 }
 
 // The place of the participant's first waiting order with that code.
-fn find(floor: &Floor, participant: u64, code: u64) -> Option<usize>
+pub fn find(floor: &Floor, participant: u64, code: u64) -> Option<usize>
     requires { floor.now.count ≤ max_waiting }
-    ensures { found_at result ≡ index_of participant code (first_orders floor.now.count floor.now.orders) }
+    ensures place { found_at result ≡ index_of participant code (first_orders floor.now.count floor.now.orders) }
+    ensures inside { Inside floor.now.count result }
 {
     for (i, o) in floor.orders[..floor.count].iter().enumerate() {
         if is_own(participant, code, o) {
