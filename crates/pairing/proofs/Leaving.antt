@@ -31,6 +31,7 @@ rest_day r f i = with_waiting (day_of r f) (drop i (day_of r f).waiting)
 -- f₀ is the floor at the start, f the one where the needs of the first i orders are freed
 pub record Leaving (r : Rules) (f₀ f : Floor) (i : ℕ) : Type 0 where
   pub count : f.count ≡ f₀.count
+  pub orders : f.orders ≡ f₀.orders
   pub passed : i ≤ f.count
   pub standing : Standing (rest_day r f i)
   pub rest : leave_first (f.count - i) (rest_day r f i) ≡ all_left (day_of r f₀)
@@ -38,6 +39,7 @@ pub record Leaving (r : Rules) (f₀ f : Floor) (i : ℕ) : Type 0 where
 pub leaving_starts : (r : Rules) (f : Floor) → Standing (day_of r f) → Leaving r f f 0
 leaving_starts r f st = record {
   count = refl;
+  orders = refl;
   passed = omega arith;
   standing = st;
   rest =
@@ -108,6 +110,7 @@ module _ {r : Rules} {f₀ f : Floor} {i : ℕ} (g : Leaving r f₀ f i) where
     unfolding leave_first
     leaving_next = record {
       count = g.count;
+      orders = g.orders;
       passed = omega arith;
       standing = subst Standing (sym after) (leave_standing d 0 g.standing inside);
       rest =

@@ -22,11 +22,12 @@ pub struct Tally {
     pub trades: usize,
 }
 
-// The needs of all waiting orders are freed, and none waits any more.
+// The needs of all waiting orders are freed, and none waits any more. Each place of the list keeps its order.
 #[tactic(auto, using(market::proofs::View::first_length))]
 pub fn free_all(floor: &mut Floor, rules: &Rules)
     requires { Standing (day_of rules.now floor.old) }
-    ensures { day_of rules.now floor.new ≡ all_left (day_of rules.now floor.old) }
+    ensures day { day_of rules.now floor.new ≡ all_left (day_of rules.now floor.old) }
+    ensures orders { floor.new.orders ≡ floor.old.orders }
 {
     for i in 0..floor.count {
         free_need(floor, rules, floor.orders[i]);

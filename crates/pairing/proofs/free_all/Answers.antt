@@ -14,5 +14,5 @@ loop-i-preserved c =
     rw c.free_need.ensures
     (leaving_next c.loop-i.invariant (omega (arith, c.loop-i-test.true, c.loop-i.invariant.count)))
 
-pub returns : goal.returns
-returns c = leaving_ends c.loop-i.invariant (omega (arith, c.loop-i-test.false, c.loop-i.invariant.count))
+pub returns-clause-day : goal.returns-clause-day
+returns-clause-day c = leaving_ends c.loop-i.invariant (omega (arith, c.loop-i-test.false, c.loop-i.invariant.count))

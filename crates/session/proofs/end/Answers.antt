@@ -27,4 +27,4 @@ pub returns : goal.returns
 returns c =
     rw c.next_phase-floor.ensures
     (ended c.requires c.args.session c.args.trades.now c.if-trades-lt-LENT_AT_LEAST.false (holds c.admits_end.ensures c.if-not-admits_end.false)
-    c.pair_securities-tally.ensures c.free_all.ensures)
+    c.pair_securities-tally.ensures c.free_all.ensures.day)

@@ -27,4 +27,4 @@ pub returns : goal.returns
 returns c =
     rw c.phase_of-floor.ensures
     (started c.requires c.args.session (holds c.admits_start.ensures c.if-not-admits_start.false)
-    (holds (c.starts_at.ensures ∙ ap (starts_at c.args.session) c.given.ensures) c.if-not-starts_at.false) c.free_all.ensures)
+    (holds (c.starts_at.ensures ∙ ap (starts_at c.args.session) c.given.ensures) c.if-not-starts_at.false) c.free_all.ensures.day)
