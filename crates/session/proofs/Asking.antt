@@ -35,9 +35,16 @@ use Rattle.orders.specs.Entering.{open_questions}
 use Rattle.orders.proofs.Asking.{counted, positive}
 use Rattle.waiting.specs.Claims.{Reckonable}
 use Rattle.waiting.proofs.Claims.{known_reckons}
-use Rattle.session.specs.Asking.{closing_claim, later_questions}
+use Rattle.session.specs.Asking.{Askable, closing_claim, later_questions}
 
-module _ (r : Rules) (f : Floor) (standing : Standing (day_of r f)) (p : ℕ) (side : Side) (s n : ℕ) where
+-- on a sound day they can be asked
+pub askable : (r : Rules) (f : Floor) → Standing (day_of r f) → Askable r f
+askable r f standing = record {
+  rules = standing.backed.rules_ok;
+  prices = λ s h. (closing_bounds (turnover_at f.turnover s) (standing.turnovers s h)).0;
+}
+
+module _ (r : Rules) (f : Floor) (can : Askable r f) (p : ℕ) (side : Side) (s n : ℕ) where
   abbrev d : Day
   d = day_of r f
 
@@ -76,8 +83,7 @@ module _ (r : Rules) (f : Floor) (standing : Standing (day_of r f)) (p : ℕ) (s
 
     pub reckonable : Reckonable d (closing_claim p side s n)
     reckonable =
-        let limit = (closing_bounds (turnover_at f.turnover s) (standing.turnovers s listed)).0 in
-        known_reckons d (closing_claim p side s n) standing.backed.rules_ok (ltb-true p r.participants early_yes.0) listed limit in_lots
+        known_reckons d (closing_claim p side s n) can.rules (ltb-true p r.participants early_yes.0) listed (can.prices s listed) in_lots
 
     pub no_later : {i : ℕ} → i ≡ first_no later → i ≡ first_no asked
     no_later e = e ∙ sym (asked_in_turn ∙ passes early later early_yes)

@@ -9,11 +9,10 @@ ghost use Rattle.market.specs.Questions.{closing_questions, first_no};
 ghost use Rattle.market.specs.Refusals.{number_in};
 ghost use Rattle.market.specs.Parts.{Carries, Ready, end_of, start_of};
 ghost use Rattle.market.specs.View.{day_of, first_orders};
-ghost use Rattle.invariant.specs.Standing.{Standing};
 ghost use Rattle.matching.specs.Orders.{FewLots};
 ghost use Rattle.waiting.specs.Claims.{Reckonable};
 ghost use Rattle.session.specs.Sessions.{Endable, PairsAll, end_access, next_phase, phase_of, start_access, starts_at, terms_with};
-ghost use Rattle.session.specs.Asking.{closing_claim, later_questions};
+ghost use Rattle.session.specs.Asking.{Askable, closing_claim, later_questions};
 
 use amounts::closing_price;
 use auction::price;
@@ -153,7 +152,7 @@ fn later_no(floor: &Floor, rules: &Rules, o: Order) -> Result<(), Refusal>
 }
 
 // The first "no" of a closing order's questions, which read no waiting order.
-fn closing_no(
+pub fn closing_no(
     floor: &Floor,
     rules: &Rules,
     participant: u64,
@@ -161,7 +160,7 @@ fn closing_no(
     security: u64,
     lots: u64,
 ) -> Result<(), Refusal>
-    requires { Standing (day_of rules.now floor.now) }
+    requires { Askable rules.now floor.now }
     ensures { number_in result ≡ first_no (closing_questions (day_of rules.now floor.now) participant side security lots) }
 {
     let admitted = admits(floor.phase, Access::ClosingOrder);

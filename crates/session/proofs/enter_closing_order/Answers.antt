@@ -1,10 +1,10 @@
 -- `session::enter_closing_order` meets its contract: its questions, then the order waits.
 use Rattle.invariant.proofs.Sound.{ready_standing}
-use Rattle.session.proofs.Asking.{lots_kept, numberable, placeable, refuse, waits}
+use Rattle.session.proofs.Asking.{askable, lots_kept, numberable, placeable, refuse, waits}
 use Rattle.session.proofs.enter_closing_order.Goals as goal
 
 pub closing_no-asked-requires : goal.closing_no-asked-requires
-closing_no-asked-requires c = ready_standing c.requires
+closing_no-asked-requires c = askable c.args.rules.now c.args.floor.now (ready_standing c.requires)
 
 pub returns-in-Err : goal.returns-in-Err
 returns-in-Err c =
