@@ -73,22 +73,22 @@ restore-requires c =
 
 pub returns-in_default : goal.returns-in_default
 returns-in_default c =
-    let h = rw c.in_default.is at (told c.before.before.before.before.before.before) in
+    let h = rw c.in_default.is at (told (goal.at.returns-in_default c).Joined-asked) in
     rw c.restore.ensures
     (turn_stops c.loop-i.invariant _ _ _ c.in_default.is _ h (c.loop-i.made * 8) (omega arith) _ c.saved-kept.ensures)
 
 pub overflow_add-filled : goal.overflow_add-filled
 overflow_add-filled c =
-    let h = rw c.in-Done.is at (told c.before) in
+    let h = rw c.in-Done.is at (told (goal.at.overflow_add-filled c).Joined-asked) in
     omega (arith, turn_sums h)
 
 pub overflow_add-made : goal.overflow_add-made
 overflow_add-made c =
-    let h = rw c.in-Done.is at (told c.before) in
+    let h = rw c.in-Done.is at (told (goal.at.overflow_add-made c).Joined-asked) in
     omega (arith, turn_sums h)
 
 pub loop-i-preserved : goal.loop-i-preserved
-loop-i-preserved c = rw c.in-Done.is at (told c.before)
+loop-i-preserved c = rw c.in-Done.is at (told (goal.at.loop-i-preserved c).Joined-asked)
 
 pub next_code-first-requires : goal.next_code-first-requires
 next_code-first-requires c = own_count (turns_owner c.loop-i.invariant c.loop-i-test.false)
