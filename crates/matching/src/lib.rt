@@ -98,9 +98,9 @@ fn rank(side: Side, price: u64) -> u64
 }
 
 // Is the waiting order, whose price has this rank, a counter order with a rank below the bound? Few orders pass the first
-// question.
-fn closer(e: Order, bound: u64, height: u64, o: Order) -> bool
-    ensures { result ≡ isCloser e bound height o }
+// question, and of the others no more is read: the order is lent.
+fn closer(e: Order, bound: u64, height: u64, o: &Order) -> bool
+    ensures { result ≡ isCloser e bound height o.now }
 {
     height < bound
         && e.security == o.security
@@ -292,7 +292,7 @@ pub fn fill(floor: &mut Floor, rules: &Rules, e: Order, trades: &mut [u64]) -> M
                 };
                 break 'search found;
             }
-            let o = floor.orders[i];
+            let o = &floor.orders[i];
             let height = rank(e.side, price_of(o.kind));
             if closer(e, bound, height, o) {
                 best = Some(i);
