@@ -74,6 +74,10 @@ fn first_pair(waiting: &[Order], security: u64, limit: Kind) -> Option<Pair>
     let mut buys = None;
     let mut sells = None;
     for (i, o) in waiting.iter().enumerate() {
+        // Of another security's order no more is read.
+        if o.security != security {
+            continue;
+        }
         buys = preferred(seller, buys, *o, i);
         sells = preferred(buyer, sells, *o, i);
         if decided(limit, buys, sells) {
