@@ -63,7 +63,11 @@ pub fn commands(text: &[u8], from: Stand, floor: &mut Floor, rules: &Rules, out:
     while goes_on(text.len(), stand.at, out.len(), stand.filled) {
         let reading = command_at(text, stand.at);
         let answer = match reading.says {
-            Line::Call(call) => carry_out(floor, rules, call, &reading.members, &mut trades),
+            Line::Call(call) => {
+                // Of what was read only this is copied: were a place in it lent, the loop would copy all of it at each line.
+                let members = reading.members;
+                carry_out(floor, rules, call, &members, &mut trades)
+            }
             _ => Answer::from(Refusal::Malformed),
         };
         stand.filled = put_command(out, stand.filled, stand.line, answer, &trades);

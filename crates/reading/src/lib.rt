@@ -20,13 +20,14 @@ const NO_MEMBERS: [Ticket; 8] = [Ticket {
     lots: 0,
 }; 8];
 
-// What a first line says, the members of a group, how many lines were taken, and where the text goes on after them.
+// What a first line says, how many lines were taken, where the text goes on after them, and the members of a group. These stand
+// last: behind `says` they would be copied with its padding, and a caller that copies them would copy them twice.
 #[derive(Clone, Copy)]
 pub struct Reading {
     pub says: Line,
-    pub members: [Ticket; 8],
     pub lines: u64,
     pub next: usize,
+    pub members: [Ticket; 8],
 }
 
 // A line, and where the text goes on after it.
