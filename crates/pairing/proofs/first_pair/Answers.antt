@@ -35,7 +35,7 @@ passed_over {e} {w} {i} h more other =
 pub loop-i-preserved-then-o-security : goal.loop-i-preserved-then-o-security
 loop-i-preserved-then-o-security c =
     let l = c.loop-i in
-    let another = c.if-o-security.true in
+    let another : (order_at c.args.waiting.now l.i).security ≡ c.args.security → ⊥ = c.if-o-security.true in
     let looks : (e : Order) → e.security ≡ c.args.security → e.security ≡ (order_at c.args.waiting.now l.i).security → ⊥ =
     λ e p q. another (sym q ∙ p)
     in (
